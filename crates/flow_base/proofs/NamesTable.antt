@@ -95,7 +95,6 @@ module _ {K X : Type 0} (key : K → List ℕ) where
       ∙ ap (λ b. cond b (Some v) (find order q (keyed es))) (is_eq-slice_cmp q (key k))
       ∙ ap (cond (bytes_eq q (key k)) (Some v)) (find-keyed es q)
 
-
 -- the laws of symbols
 head_at : (n : List ℕ) (ns : List (List ℕ)) (s : List ℕ) (symbol : Sym) → (b : Bool) → (b ≡ true → n ≡ s) → ((t : Sym) → symbol_of ns s ≡ Some t → slice_get ns t.0 ≡ Some s) → cond b (Some (sym_at 0)) (next_sym (symbol_of ns s)) ≡ Some symbol → slice_get (n ∷ ns) symbol.0 ≡ Some s
 head_at n ns s symbol true e below h =
