@@ -1,0 +1,5 @@
+pub mod Causes
+pub mod Gathered
+pub mod Memory
+pub mod Reader
+pub mod Reading
