@@ -3,3 +3,4 @@ pub mod Gathered
 pub mod Memory
 pub mod Reader
 pub mod Reading
+pub mod Standard
