@@ -1,0 +1,23 @@
+//! Bytes in and bytes out, with the faults of the outside counted, and the cut of the input into lines.
+#![tactic(auto)]
+
+mod line;
+mod memory;
+mod sink;
+mod source;
+mod standard;
+#[cfg(test)]
+mod tests;
+
+pub use flow_base::Bytes;
+pub use line::{Line, LineFault, LineReader};
+pub use memory::{MemSink, MemSource};
+pub use sink::{Sink, put};
+pub use source::{Failed, Source};
+pub use standard::{StdSink, StdSource};
+
+/// A line has at most this many bytes, its line feed not counted.
+pub const LINE_LIMIT: usize = 1_048_576;
+
+/// The input has at most this many bytes.
+pub const INPUT_LIMIT: u64 = 67_108_864;
