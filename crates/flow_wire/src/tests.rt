@@ -1,0 +1,1 @@
+// Lines and replies as they stand on the wire.
