@@ -8,11 +8,12 @@ ghost use Rattle.flow_wire.specs.declared.reply.Reply.{Reply};
 
 use crate::reply::{EndText, EventKind, MarkText, Reply, TextList};
 use flow_base::{Bytes, Kind, NoMemory, PyText, SyntaxKind};
-use serde_json::{Value, json};
+use serde_json::{Map, Value, json, put};
 use std::alloc::Global;
 
 /// Writes a reply as one line of compact JSON (RFC 8259), with the keys of each object in the order of their bytes, and
 /// without a line feed at its end.
+#[tactic(auto, using(crate::proofs::Floats::reply_has_none))]
 pub fn write_reply(alloc: Global, r: &Reply) -> Result<Bytes, NoMemory>
     ensures { IfOk result (λ line. line ≡ reply_text r.now) }
 {
@@ -61,20 +62,14 @@ fn ran_value(
     ensures { IfOk result (λ value. view value
         ≡ reply_data (Reply.Ran cell.now end.now mark.now out.now run stale.now)) }
 {
-    let cell = text_value(alloc, cell)?;
-    let end = end_value(alloc, end)?;
-    let mark = mark_value(alloc, mark)?;
-    let out = text_value(alloc, out)?;
-    let stale = texts_value(alloc, stale.as_slice())?;
-    let value = json!(in alloc; {
-        "cell": cell,
-        "end": end,
-        "mark": mark,
-        "out": out,
-        "run": run,
-        "stale": stale
-    })?;
-    Ok(value)
+    let mut members = Map::new(alloc);
+    put(&mut members, alloc, "cell", text_value(alloc, cell)?)?;
+    put(&mut members, alloc, "end", end_value(alloc, end)?)?;
+    put(&mut members, alloc, "mark", mark_value(alloc, mark)?)?;
+    put(&mut members, alloc, "out", text_value(alloc, out)?)?;
+    put(&mut members, alloc, "run", Value::from(run))?;
+    put(&mut members, alloc, "stale", texts_value(alloc, stale.as_slice())?)?;
+    Ok(Value::from(members))
 }
 
 fn event_value(alloc: Global, kind: EventKind) -> Result<Value, NoMemory>
@@ -144,14 +139,12 @@ fn stale_value(
     ensures { IfOk result (λ value. view value
         ≡ mark_data (MarkText.Stale computed dep.now overwritten symbol.now)) }
 {
-    let dep = text_value(alloc, dep)?;
-    let symbol = text_value(alloc, symbol)?;
-    let value = json!(in alloc; {"stale": {
-        "computed": computed,
-        "dep": dep,
-        "overwritten": overwritten,
-        "symbol": symbol
-    }})?;
+    let mut members = Map::new(alloc);
+    put(&mut members, alloc, "computed", Value::from(computed))?;
+    put(&mut members, alloc, "dep", text_value(alloc, dep)?)?;
+    put(&mut members, alloc, "overwritten", Value::from(overwritten))?;
+    put(&mut members, alloc, "symbol", text_value(alloc, symbol)?)?;
+    let value = json!(in alloc; {"stale": members})?;
     Ok(value)
 }
 
