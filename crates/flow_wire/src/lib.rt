@@ -3,10 +3,9 @@
 
 mod ask;
 mod reply;
-mod written;
-
 #[cfg(test)]
 mod tests;
+mod written;
 
 pub use ask::{Ask, BadAsk, read_ask};
 pub use reply::{EndText, EventKind, MarkText, Reply, TextList, UnknownText};

@@ -44,7 +44,9 @@ pub enum MarkText {
     /// The analysis could not follow a node.
     Unknown(UnknownText),
     /// The cell has a form that is not analysed. `run` is the number, from 1, of the run that it is marked for.
-    Form { run: u64 },
+    Form {
+        run: u64,
+    },
 }
 
 /// Why a line is no event: it is too long, is not UTF-8, is not JSON, or has the shape of no event.
@@ -60,7 +62,9 @@ pub enum EventKind {
 #[derive(Drop)]
 pub enum Reply {
     /// The cell has its new text.
-    Edited { cell: PyText },
+    Edited {
+        cell: PyText,
+    },
     /// The cell was run as the run with this number, from 1. `mark` and `stale` are by the state before the run:
     /// `stale` has the paths of the locations whose stale value the run used. `out` is what the run printed.
     Ran {
@@ -72,13 +76,18 @@ pub enum Reply {
         stale: TextList,
     },
     /// The line is no event.
-    Event { kind: EventKind },
+    Event {
+        kind: EventKind,
+    },
     /// The cell has no text.
     NoCell,
     /// The line asks for more steps than a run may have.
     BadSteps,
     /// The text was refused, for the fault on this line of it, counted from 1.
-    Syntax { kind: SyntaxKind, line: u64 },
+    Syntax {
+        kind: SyntaxKind,
+        line: u64,
+    },
 }
 
 ghost use Rattle.flow_wire.specs.Replied.{is_refusal};

@@ -68,7 +68,12 @@ fn ran_value(
     put(&mut members, alloc, "mark", mark_value(alloc, mark)?)?;
     put(&mut members, alloc, "out", text_value(alloc, out)?)?;
     put(&mut members, alloc, "run", Value::from(run))?;
-    put(&mut members, alloc, "stale", texts_value(alloc, stale.as_slice())?)?;
+    put(
+        &mut members,
+        alloc,
+        "stale",
+        texts_value(alloc, stale.as_slice())?,
+    )?;
     Ok(Value::from(members))
 }
 
