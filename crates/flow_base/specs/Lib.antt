@@ -1,2 +1,4 @@
 pub mod Lines
+pub mod Names
+pub mod NamesIndex
 pub mod formers
