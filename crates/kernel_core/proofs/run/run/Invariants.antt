@@ -1,0 +1,6 @@
+use Rattle.std.proofs.Common.{◌≡◌, drop}
+use Rattle.kernel_core.specs.Run.{run_from}
+use Rattle.kernel_core.proofs.run.run.Given as goal
+
+abbrev pub invariant-loop-assign : goal.invariant-loop-assign
+invariant-loop-assign l = run_from l.names l.initial.values l.assigns ≡ run_from l.names l.values (drop l.assign-index l.assigns)

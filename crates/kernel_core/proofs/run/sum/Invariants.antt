@@ -1,0 +1,6 @@
+use Rattle.std.proofs.Common.{◌≡◌, drop}
+use Rattle.kernel_core.specs.Run.{sum_from}
+use Rattle.kernel_core.proofs.run.sum.Given as goal
+
+abbrev pub invariant-loop-atom : goal.invariant-loop-atom
+invariant-loop-atom l = sum_from l.names l.values 0 l.atoms ≡ sum_from l.names l.values l.total (drop l.atom-index l.atoms)

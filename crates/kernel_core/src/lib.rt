@@ -1,0 +1,19 @@
+//! The kernel: it keeps the texts of the cells and what they computed, and answers one ask at a time.
+#![tactic(auto)]
+
+mod accepted;
+mod answer;
+mod form;
+mod kernel;
+mod law;
+mod run;
+mod sequence;
+mod state;
+mod table;
+mod values;
+
+pub use accepted::Accepted;
+pub use form::{Assign, Atom, Cell};
+pub use kernel::{Kernel, STEPS_LIMIT};
+pub use law::answer_law;
+pub use run::End;
