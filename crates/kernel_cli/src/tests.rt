@@ -1,0 +1,182 @@
+// Worked logs with the replies that they must get, over a source and a sink in memory.
+use crate::serve::ipyflow;
+use crate::status::Status;
+use crate::words::{Command, read_words};
+use flow_base::NoMemory;
+use flow_io::{LINE_LIMIT, MemSink, MemSource};
+use std::alloc::Global;
+use std::process::Abort;
+use std::test::Fail;
+
+const EDIT: &str = "{\"event\":\"edit\",\"cell\":\"a\",\"text\":\"x = 1\"}\n";
+
+const RUN: &str = "{\"event\":\"run\",\"cell\":\"a\"}\n";
+
+const BARE_RUN: &str = "{\"event\":\"run\",\"cell\":\"a\"}";
+
+const EDITED: &str = "{\"cell\":\"a\",\"edited\":true}\n";
+
+const RAN_1: &str =
+    "{\"cell\":\"a\",\"end\":\"ok\",\"mark\":{\"unknown\":{\"kind\":\"form\",\"node\":[1,1]}},\"out\":\"\",\"run\":1,\"stale\":[]}\n";
+
+const RAN_2: &str =
+    "{\"cell\":\"a\",\"end\":\"ok\",\"mark\":{\"unknown\":{\"kind\":\"form\",\"node\":[2,1]}},\"out\":\"\",\"run\":2,\"stale\":[]}\n";
+
+const NAME_ERROR_1: &str =
+    "{\"cell\":\"a\",\"end\":{\"raised\":\"NameError\"},\"mark\":{\"unknown\":{\"kind\":\"form\",\"node\":[1,1]}},\"out\":\"\",\"run\":1,\"stale\":[]}\n";
+
+const LONG: &str = "{\"kind\":\"long\",\"refused\":\"event\"}\n";
+
+const UTF8: &str = "{\"kind\":\"utf8\",\"refused\":\"event\"}\n";
+
+const JSON: &str = "{\"kind\":\"json\",\"refused\":\"event\"}\n";
+
+const SHAPE: &str = "{\"kind\":\"shape\",\"refused\":\"event\"}\n";
+
+const NO_CELL: &str = "{\"refused\":\"no cell\"}\n";
+
+const SYNTAX_1: &str = "{\"kind\":\"syntax\",\"line\":1,\"refused\":\"syntax\"}\n";
+
+fn joined(alloc: Global, pieces: &[&str]) -> Result<Vec<u8>, NoMemory> {
+    let mut bytes = Vec::new(alloc);
+    for piece in pieces {
+        bytes.extend_from_slice(piece.as_bytes())?;
+    }
+    Ok(bytes)
+}
+
+fn one_word(alloc: Global, word: &str) -> Result<Vec<String>, NoMemory> {
+    let mut words = Vec::new(alloc);
+    words.push(String::from_str(alloc, word)?)?;
+    Ok(words)
+}
+
+// Answers the log, where these reads and these writes fail, and compares the status and what was written.
+fn answers(
+    rt: &(impl Abort + AllocGlobal),
+    log: &[u8],
+    faults: (u64, u64),
+    status: Status,
+    replies: &[&str],
+) -> Result<(), Fail> {
+    let alloc = rt.alloc();
+    let words = one_word(alloc, "run")?;
+    let replies = joined(alloc, replies)?;
+    let mut source = MemSource::new(alloc, log, &[faults.0])?;
+    let mut sink = MemSink::new(alloc, 10_000, &[faults.1])?;
+    assert_eq!(rt; ipyflow(alloc, &words, &mut source, &mut sink), status);
+    assert_eq!(rt; sink.written(), replies.as_slice());
+    Ok(())
+}
+
+// A log, the number of the read and of the write that fail (0 for none), the status, and the replies.
+#[test]
+fn logs_get_their_replies(rt: HostRuntime) -> Result<(), Fail> {
+    let alloc = rt.alloc();
+    let rows: [(&[&str], (u64, u64), Status, &[&str]); 9] = [
+        (&[], (0, 0), Status::Done, &[]),
+        (&[EDIT, RUN], (0, 0), Status::Done, &[EDITED, RAN_1]),
+        (&[EDIT, BARE_RUN], (0, 0), Status::Done, &[EDITED, RAN_1]),
+        (&[EDIT, BARE_RUN], (45, 0), Status::ReadFault, &[EDITED]),
+        (&[EDIT, RUN], (0, 1), Status::WriteFault, &[]),
+        (&[EDIT, RUN], (0, 2), Status::WriteFault, &[EDITED]),
+        (
+            &[
+                EDIT,
+                RUN,
+                "{\"event\":\"edit\",\"cell\":\"a\",\"text\":\"if x\"}\n",
+                RUN,
+            ],
+            (0, 0),
+            Status::Refused,
+            &[EDITED, RAN_1, SYNTAX_1, RAN_2],
+        ),
+        (
+            &[
+                "{\"event\":\"edit\",\"cell\":\"a\",\"text\":\"y = q\"}\n",
+                RUN,
+            ],
+            (0, 0),
+            Status::Done,
+            &[EDITED, NAME_ERROR_1],
+        ),
+        (
+            &[
+                "{\n",
+                "{\"event\":\"run\"}\n",
+                "{\"event\":\"run\",\"cell\":\"q\"}\n",
+                "\n",
+                "{\"event\":\"marks\",\"cell\":\"a\"}\n",
+            ],
+            (0, 0),
+            Status::Refused,
+            &[JSON, SHAPE, NO_CELL, JSON, SHAPE],
+        ),
+    ];
+    for (log, faults, status, replies) in rows {
+        let log = joined(alloc, log)?;
+        answers(&rt, &log, faults, status, replies)?;
+    }
+    Ok(())
+}
+
+#[test]
+fn a_line_that_is_no_text_is_told_apart(rt: HostRuntime) -> Result<(), Fail> {
+    answers(&rt, b"\xff\n\xff{", (0, 0), Status::Refused, &[UTF8, UTF8])
+}
+
+// A line of the limit is answered, and one byte more is too long; the next line is answered all the same.
+#[test]
+fn lines_have_a_limit(rt: HostRuntime) -> Result<(), Fail> {
+    let alloc = rt.alloc();
+    for (len, reply) in [(LINE_LIMIT, NO_CELL), (LINE_LIMIT + 1, LONG)] {
+        let mut log = joined(alloc, &[BARE_RUN])?;
+        log.resize(len, b' ')?;
+        log.push(b'\n')?;
+        log.extend_from_slice(EDIT.as_bytes())?;
+        answers(&rt, &log, (0, 0), Status::Refused, &[reply, EDITED])?;
+    }
+    Ok(())
+}
+
+#[test]
+fn words_without_a_shape_are_usage(rt: HostRuntime) -> Result<(), Fail> {
+    let alloc = rt.alloc();
+    let shape = read_words(&one_word(alloc, "run")?);
+    assert_eq!(rt; shape, Some(Command::Run { steps: 100_000 }));
+    let rows: [&[&str]; 5] = [
+        &[],
+        &["run", "x"],
+        &["run", "--steps", "10000001"],
+        &["gen", "1"],
+        &["Run"],
+    ];
+    for row in rows {
+        let mut words = Vec::new(alloc);
+        for word in row {
+            words.push(String::from_str(alloc, word)?)?;
+        }
+        let mut source = MemSource::new(alloc, EDIT.as_bytes(), &[1])?;
+        let mut sink = MemSink::new(alloc, 100, &[1])?;
+        assert_eq!(rt;
+            ipyflow(alloc, &words, &mut source, &mut sink),
+            Status::Usage
+        );
+    }
+    Ok(())
+}
+
+#[test]
+fn statuses_have_their_codes(rt: HostRuntime) {
+    for (status, code) in [
+        (Status::Done, 0),
+        (Status::Refused, 1),
+        (Status::Usage, 2),
+        (Status::ReadFault, 3),
+        (Status::WriteFault, 4),
+        (Status::NoMemory, 5),
+        (Status::InputLimit, 6),
+    ] {
+        assert_eq!(rt; status.code(), code);
+    }
+}
