@@ -1,6 +1,6 @@
 -- Versions over a history, the list of what is kept of its runs. Run 1 comes first; run 0 stands for the time before all
 -- runs. All functions are total: a version that the history lacks has no location and rests on nothing.
-use Rattle.std.specs.Prelude.{ℕ, zero, suc, ◌-◌, ◌==◌, Bool, false, List, [], ◌∷◌, ◌++◌, map, Option, Some, None, slice_index_or}
+use Rattle.std.specs.Prelude.{◌≡◌, ◌⊎◌, ℕ, zero, suc, ◌-◌, ◌<◌, ◌==◌, Bool, false, List, [], ◌∷◌, ◌++◌, map, Option, Some, None, slice_index_or}
 use Rattle.std.specs.List.{find, list_any}
 use Rattle.flow_base.specs.Same.{loc_eq}
 use Rattle.flow_base.specs.declared.event.Event.{Event}
@@ -40,6 +40,15 @@ made_upto h (suc n) = made_upto h n ++ made h (suc n)
 abbrev pub run_of : Version → ℕ
 run_of (Empty l) = 0
 run_of (at_write run place) = run.0
+
+-- its place among the events of that run, or 0
+abbrev pub place_of : Version → ℕ
+place_of (Empty l) = 0
+place_of (at_write run place) = place
+
+-- u is of an earlier run than v, or of the same run and an earlier place
+abbrev pub IsOlder : Version → Version → Type 0
+IsOlder u v = (run_of u < run_of v) ⊎ ((run_of u ≡ run_of v) × (place_of u < place_of v))
 
 abbrev pub write_at : List Written → ℕ → Option Written
 write_at ws place = find (λ w. w.place == place) ws
