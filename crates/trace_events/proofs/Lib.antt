@@ -4,3 +4,4 @@ pub mod Ancestors
 pub mod StepLaw
 pub mod Reached
 pub mod StaleTest
+pub mod Places

@@ -152,7 +152,7 @@ kept_fold : (es : List Event) (r : Reading) → IsKept r → IsKept (fold step r
 kept_fold [] r k = k
 kept_fold (e ∷ es) r k = kept_fold es (step r e) (kept_step r e k)
 
-place_step : (r : Reading) (e : Event) → (step r e).place ≡ r.place + 1
+pub place_step : (r : Reading) (e : Event) → (step r e).place ≡ r.place + 1
 place_step r (Use l) = refl
 place_step r (Place l) = refl
 place_step r (Write l) = refl

@@ -1,5 +1,5 @@
 -- What the events of a run say: which locations it read as they stood before it, and what each of its writes rests on.
-use Rattle.std.specs.Prelude.{ℕ, zero, suc, ◌+◌, ◌-◌, List, [], ◌∷◌, ◌++◌, reverse, Option, Some, None, if◌then◌else◌}
+use Rattle.std.specs.Prelude.{◌≡◌, ℕ, zero, suc, ◌+◌, ◌-◌, ◌<◌, slice_get, List, [], ◌∷◌, ◌++◌, reverse, Option, Some, None, if◌then◌else◌}
 use Rattle.std.specs.List.{fold, flat_map, Contains}
 use Rattle.flow_base.specs.Same.{loc_eq}
 use Rattle.flow_base.specs.declared.loc.Loc.{Loc}
@@ -113,6 +113,19 @@ reading_of events = fold step start events
 -- what is kept of a run with these events
 abbrev pub summary_of : List Event → Summary
 summary_of events = let r = reading_of events in record { reads = r.reads; writes = r.writes }
+
+-- ---- events at places
+
+abbrev pub IsAt : List Event → ℕ → Event → Type 0
+IsAt events place event = slice_get events place ≡ Some event
+
+abbrev pub read_event : Loc → ReadHow → Event
+read_event l ByUse = Use l
+read_event l ByPlace = Place l
+
+-- at the place stands a read of the location, in this way, and at no earlier place a write of it
+abbrev pub IsReadBeforeWrite : List Event → Loc → ReadHow → ℕ → Type 0
+IsReadBeforeWrite events l how place = IsAt events place (read_event l how) × ((earlier : ℕ) → earlier < place → IsAt events earlier (Write l) → ⊥)
 
 -- ---- reads of what stood before the run
 

@@ -1,11 +1,32 @@
 // What the definitions mean, as laws over the histories of all lists of traces.
-ghost use Rattle.std.specs.Prelude.{◌≡◌, ◌↔◌, ◌⊎◌, ◌+◌, ◌-◌, ◌≤◌, ℕ, List, [], IsTrue};
-ghost use Rattle.std.specs.List.{Contains};
+ghost use Rattle.std.specs.Prelude.{◌≡◌, ◌↔◌, ◌⊎◌, ◌+◌, ◌-◌, ◌<◌, ◌≤◌, ℕ, List, [], IsTrue};
+ghost use Rattle.std.specs.List.{AllPairs, Contains};
 ghost use Rattle.flow_base.specs.declared.event.Event.{Event};
+ghost use Rattle.flow_base.specs.declared.event.ReadHow.{ReadHow};
+ghost use Rattle.flow_base.specs.declared.loc.Loc.{Loc};
 ghost use Rattle.trace_events.specs.declared.version.Version.{Version};
 ghost use Rattle.trace_events.specs.History.{history_of, deps, run_of, wrote, IsOlder};
 ghost use Rattle.trace_events.specs.Decided.{ancestors_of, near_of, is_stale};
 ghost use Rattle.trace_events.specs.Staleness.{Ancestor, Near, Stale};
+ghost use Rattle.trace_events.specs.Trace.{Written, IsAt, IsReadBeforeWrite, IsStartRead, summary_of};
+
+/// What is kept of the events of a run.
+pub fn trace_law()
+    // a start read of a location is a read of it that no write of it comes before
+    ensures start_reads {
+        (events : List Event) (l : Loc) (how : ReadHow)
+            → (IsStartRead events l how ↔ ((place : ℕ) × IsReadBeforeWrite events l how place))
+    }
+
+    // the writes that are kept are those at all places, with their locations, in the order of the places
+    ensures writes {
+        (events : List Event) (place : ℕ) (l : Loc)
+            → (IsAt events place (Event.Write l)
+                ↔ ((w : Written) × Contains (summary_of events).writes w × (w.place ≡ place) × (w.location ≡ l)))
+    }
+    ensures in_order { (events : List Event) → AllPairs (λ (w x : Written). w.place < x.place) (summary_of events).writes }
+{
+}
 
 /// What a version rests on came about before it.
 pub fn ancestors_law()
