@@ -1,4 +1,5 @@
 pub mod Lines
 pub mod Names
 pub mod NamesIndex
+pub mod Same
 pub mod formers

@@ -18,7 +18,7 @@ pub use event::{Event, How, ReadHow};
 pub use held::Held;
 pub use key::{Key, Keys, same_key};
 pub use kinds::{Kind, SyntaxKind};
-pub use loc::{Loc, same_loc};
+pub use loc::{Loc, same_law, same_loc};
 pub use names::{Names, names_law};
 pub use no_memory::NoMemory;
 pub use numbers::{CodeRef, ObjRef, RunNo, Sym};

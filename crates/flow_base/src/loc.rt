@@ -1,5 +1,8 @@
 // The places that hold what a run can read.
 ghost use Rattle.std.specs.Prelude.{◌≡◌, ◌↔◌, IsTrue, IfOk};
+ghost use Rattle.flow_base.specs.Same.{key_eq, loc_eq};
+ghost use Rattle.flow_base.specs.declared.key.Key.{Key};
+ghost use Rattle.flow_base.specs.declared.loc.Loc.{Loc};
 
 use crate::{Key, NoMemory, ObjRef, Sym, same_key};
 
@@ -41,4 +44,11 @@ pub fn same_loc(a: &Loc, b: &Loc) -> bool
         (Loc::Shape(o), Loc::Shape(p)) => o.0 == p.0,
         _ => false,
     }
+}
+
+/// The tests that definitions use for keys and locations hold exactly where the two are the same.
+pub fn same_law()
+    ensures keys { (a b : Key) → (IsTrue (key_eq a b) ↔ (a ≡ b)) }
+    ensures locations { (a b : Loc) → (IsTrue (loc_eq a b) ↔ (a ≡ b)) }
+{
 }

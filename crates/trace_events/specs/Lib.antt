@@ -1,0 +1,6 @@
+pub mod Trace
+pub mod History
+pub mod Staleness
+pub mod Decided
+pub mod Order
+pub mod Why

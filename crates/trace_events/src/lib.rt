@@ -1,0 +1,9 @@
+//! What the runs of a session did: versions of locations, what each version rests on, and which versions are stale. The
+//! definitions stand in `specs/`; the laws that show what they mean are the contracts of functions with empty bodies.
+#![tactic(auto)]
+
+mod laws;
+mod version;
+
+pub use laws::{ancestors_law, decided_law, staleness_law, trace_law};
+pub use version::Version;
