@@ -5,3 +5,4 @@ pub mod StepLaw
 pub mod Reached
 pub mod StaleTest
 pub mod Places
+pub mod TotalOrder
