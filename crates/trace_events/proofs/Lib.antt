@@ -6,3 +6,4 @@ pub mod Reached
 pub mod StaleTest
 pub mod Places
 pub mod TotalOrder
+pub mod Reasons

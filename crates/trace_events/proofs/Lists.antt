@@ -1,6 +1,6 @@
 -- On what a list contains, and on counts.
 use Rattle.std.proofs.Common.{◌≡◌, ℕ, zero, suc, ◌+◌, ◌<◌, ◌≤◌, ◌||◌, Bool, true, false, cond, List, [], ◌∷◌, ◌++◌, length, map, refl, sym, ap, subst, ◌∙◌, ⊎_elim, arith}
-use Rattle.std.specs.Prelude.{filter}
+use Rattle.std.specs.Prelude.{Option, Some, None, filter, find, is_some}
 use Rattle.std.specs.List.{Contains, flat_map, list_any}
 use Rattle.std.proofs.lemmas.Bool.{false≢true, true≢false, or_cases, or_left, or_right}
 use Rattle.std.proofs.lemmas.List.Elements.{Contains-append_cases, Contains-append_left, Contains-append_right}
@@ -94,3 +94,36 @@ module _ {X : Type 0} (p q : X → Bool) (weaker : (x : X) → p x ≡ true → 
 pub count_all : {X : Type 0} (xs : List X) → count (λ x. true) xs ≡ length xs
 count_all [] = refl
 count_all (x ∷ xs) = omega (arith, count_all xs)
+
+-- ---- what a filter keeps
+
+filter_head : {X : Type 0} (p : X → Bool) (z x : X) (zs : List X) (b : Bool) → p z ≡ b → (Contains (filter p zs) x → Contains zs x × (p x ≡ true))
+    → Contains (cond b (z ∷ filter p zs) (filter p zs)) x → Contains (z ∷ zs) x × (p x ≡ true)
+filter_head p z x zs true e rest (zero, lt, q) = ((0, omega arith, q), ap p (sym q) ∙ e)
+filter_head p z x zs true e rest (suc k, lt, q) = let found = rest (k, omega arith, q) in (Contains-cons z x zs found.0, found.1)
+filter_head p z x zs false e rest c = let found = rest c in (Contains-cons z x zs found.0, found.1)
+
+pub Contains-filter : {X : Type 0} (p : X → Bool) (xs : List X) (x : X) → Contains (filter p xs) x → Contains xs x × (p x ≡ true)
+Contains-filter p [] x c = absurd (no_member x c)
+Contains-filter p (z ∷ zs) x c = filter_head p z x zs (p z) refl (Contains-filter p zs x) c
+
+filter_more : {X : Type 0} (z x : X) (xs : List X) (b : Bool) → Contains xs x → Contains (cond b (z ∷ xs) xs) x
+filter_more z x xs true c = Contains-cons z x xs c
+filter_more z x xs false c = c
+
+pub Contains-filter_of : {X : Type 0} (p : X → Bool) (xs : List X) (x : X) → Contains xs x → p x ≡ true → Contains (filter p xs) x
+Contains-filter_of p [] x c t = absurd (no_member x c)
+Contains-filter_of {X} p (z ∷ zs) x (zero, lt, e) t =
+    subst (λ (b : Bool). Contains (cond b (z ∷ filter p zs) (filter p zs)) x) (sym (ap p e ∙ t)) (0, omega arith, e)
+Contains-filter_of p (z ∷ zs) x (suc k, lt, e) t = filter_more z x (filter p zs) (p z) (Contains-filter_of p zs x (k, omega arith, e) t)
+
+-- ---- the first that passes
+
+find_head : {X : Type 0} (p : X → Bool) (z : X) (o : Option X) (b : Bool) → p z ≡ b → is_some o ≡ true → is_some (cond b (Some z) o) ≡ true
+find_head p z o true e t = refl
+find_head p z o false e t = t
+
+pub find_some : {X : Type 0} (p : X → Bool) (xs : List X) (x : X) → Contains xs x → p x ≡ true → is_some (find p xs) ≡ true
+find_some p [] x c t = absurd (no_member x c)
+find_some {X} p (z ∷ zs) x (zero, lt, e) t = subst (λ (b : Bool). is_some (cond b (Some z) (find p zs)) ≡ true) (sym (ap p e ∙ t)) refl
+find_some p (z ∷ zs) x (suc k, lt, e) t = find_head p z (find p zs) (p z) refl (find_some p zs x (k, omega arith, e) t)

@@ -1,5 +1,6 @@
 // What the definitions mean, as laws over the histories of all lists of traces.
-ghost use Rattle.std.specs.Prelude.{◌≡◌, ◌↔◌, ◌⊎◌, ◌+◌, ◌-◌, ◌<◌, ◌≤◌, ℕ, List, [], IsTrue};
+ghost use Rattle.std.specs.Prelude.{◌≡◌, ◌↔◌, ◌⊎◌, ◌+◌, ◌-◌, ◌<◌, ◌≤◌, ℕ, List, [], Some, IsTrue, is_some};
+ghost use Rattle.std.specs.Cmp.{IsTotalOrder};
 ghost use Rattle.std.specs.List.{AllPairs, Contains};
 ghost use Rattle.flow_base.specs.declared.event.Event.{Event};
 ghost use Rattle.flow_base.specs.declared.event.ReadHow.{ReadHow};
@@ -8,6 +9,8 @@ ghost use Rattle.trace_events.specs.declared.version.Version.{Version};
 ghost use Rattle.trace_events.specs.History.{history_of, deps, run_of, wrote, IsOlder};
 ghost use Rattle.trace_events.specs.Decided.{ancestors_of, near_of, is_stale};
 ghost use Rattle.trace_events.specs.Staleness.{Ancestor, Near, Stale};
+ghost use Rattle.trace_events.specs.Order.{version_cmp};
+ghost use Rattle.trace_events.specs.Why.{Reason, IsWhy, why_of};
 ghost use Rattle.trace_events.specs.Trace.{Written, IsAt, IsReadBeforeWrite, IsStartRead, summary_of};
 
 /// What is kept of the events of a run.
@@ -65,5 +68,28 @@ pub fn decided_law()
     ensures ancestors { (traces : List (List Event)) (v u : Version) → (Contains (ancestors_of (history_of traces) v) u ↔ Ancestor (history_of traces) v u) }
     ensures near { (traces : List (List Event)) (v u : Version) → (Contains (near_of (history_of traces) v) u ↔ Near (history_of traces) v u) }
     ensures stale { (traces : List (List Event)) (n : ℕ) (v : Version) → (IsTrue (is_stale (history_of traces) n v) ↔ Stale (history_of traces) n v) }
+{
+}
+
+/// Why a version is stale.
+pub fn why_law()
+    // there is a reason exactly where the version is stale
+    ensures some {
+        (names : List (List ℕ)) (traces : List (List Event)) (n : ℕ) (v : Version)
+            → is_some (why_of names (history_of traces) n v) ≡ is_stale (history_of traces) n v
+    }
+
+    // it names the least ancestor that was overwritten and the first run that did so, or else it is that of the least near
+    // version that was stale
+    ensures least {
+        (names : List (List ℕ)) (traces : List (List Event)) (n : ℕ) (v : Version) (reason : Reason)
+            → why_of names (history_of traces) n v ≡ Some reason → IsWhy names (history_of traces) n v reason
+    }
+{
+}
+
+/// The order by which the least version is taken.
+pub fn order_law()
+    ensures { (names : List (List ℕ)) → IsTotalOrder (version_cmp names) }
 {
 }
