@@ -1,11 +1,9 @@
 -- The tests of keys and locations hold exactly where the two are the same.
-use Rattle.std.proofs.Common.{◌≡◌, ◌&&◌, ◌==◌, ℕ, Bool, true, false, ℤ, List, [], ◌∷◌, map, refl, sym, ap, subst, ◌∙◌, eqb-true, eq-eqb}
-use Rattle.std.specs.Ordering.{int_eq}
-use Rattle.std.specs.Str.{bytes_eq}
-use Rattle.std.proofs.lemmas.Bool.{false≢true, true≢false, and_parts, and_from}
+use Rattle.std.proofs.Common.{◌≡◌, ◌==◌, ℕ, Bool, true, List, [], ◌∷◌, map, refl, sym, ap, subst, ◌∙◌, eqb-true, eq-eqb}
+use Rattle.std.proofs.lemmas.Bool.{false≢true, and_parts, and_from}
 use Rattle.std.proofs.lemmas.Bool.Decides.{Decides-int_eq}
 use Rattle.std.proofs.lemmas.Slice.Eq.{bytes_eq-Decides}
-use Rattle.flow_base.specs.declared.key.Key.{Key, fold-Key, out-Key, roll-Key}
+use Rattle.flow_base.specs.declared.key.Key.{Key, out-Key, roll-Key}
 use Rattle.flow_base.specs.declared.key.Key.TheFolds.{fold-roll-Key, ind-Key, map-Key}
 use Rattle.flow_base.specs.declared.key.Key.TheViews.{out-roll-Key, roll-out-Key}
 use Rattle.flow_base.specs.declared.key.Key.TheOpen as key
@@ -22,6 +20,7 @@ use Rattle.flow_base.specs.Same.{all_pass, key_eq, loc_eq, passes}
 abbrev Same : Key → Type 0
 Same a = (b : Key) → key_eq a b ≡ true → a ≡ b
 
+-- a key with the law
 abbrev Known : Type 0
 Known = (a : Key) × Same a
 
@@ -58,6 +57,7 @@ level_same (key.Tuple ps) (key.Tuple ks) e = ap key.Tuple (all_same ps ks e)
 key_eq-roll : (x : Key-F Key) (b : Key) → key_eq (roll-Key x) b ≡ passes (map-Key Key (Key → Bool) key_eq x) (out-Key b)
 key_eq-roll x b = ap (λ (test : Key → Bool). test b) (fold-roll-Key (Key → Bool) (λ x k. passes x (out-Key k)) x)
 
+-- keys whose test holds are the same
 pub same_key_true : (a b : Key) → key_eq a b ≡ true → a ≡ b
 same_key_true = ind-Key Same (λ x y e. subst (λ (z : Key-F Key). Same (roll-Key z)) e (step y))
   where
@@ -66,9 +66,11 @@ same_key_true = ind-Key Same (λ x y e. subst (λ (z : Key-F Key). Same (roll-Ke
 
 -- ---- keys: a key passes its own test
 
+-- the test of the key holds of the key
 abbrev Itself : Key → Type 0
 Itself a = key_eq a a ≡ true
 
+-- a key whose test holds of it
 abbrev Passing : Type 0
 Passing = (a : Key) × Itself a
 
@@ -85,6 +87,7 @@ level_itself (key.Int n) = (Decides-int_eq n n).1 refl
 level_itself (key.Text t) = (bytes_eq-Decides t t).1 refl
 level_itself (key.Tuple ps) = all_itself ps
 
+-- the test of each key holds of that key
 pub key_itself : (a : Key) → key_eq a a ≡ true
 key_itself = ind-Key Itself (λ x y e. subst (λ (z : Key-F Key). Itself (roll-Key z)) e (step y))
   where
@@ -92,14 +95,17 @@ key_itself = ind-Key Itself (λ x y e. subst (λ (z : Key-F Key). Itself (roll-K
     step y = let x : Key-F Key = map-Key Passing Key (λ e. e.0) y in
         key_eq-roll x (roll-Key x) ∙ ap (passes (map-Key Key (Key → Bool) key_eq x)) (out-roll-Key x) ∙ level_itself y
 
+-- the test holds of keys that are the same
 pub true_same_key : (a b : Key) → a ≡ b → key_eq a b ≡ true
 true_same_key a b e = subst (λ (k : Key). key_eq a k ≡ true) e (key_itself a)
 
 -- ---- locations
 
+-- objects with one number are the same
 same_number : (o p : ObjRef) → (o.0 == p.0) ≡ true → o ≡ p
 same_number o p e = ap (λ (n : ℕ). record { 0 = n }) (eqb-true o.0 p.0 e)
 
+-- symbols with one number are the same
 same_symbol : (s t : Sym) → (s.0 == t.0) ≡ true → s ≡ t
 same_symbol s t e = ap (λ (n : ℕ). record { 0 = n }) (eqb-true s.0 t.0 e)
 
@@ -107,6 +113,7 @@ same_symbol s t e = ap (λ (n : ℕ). record { 0 = n }) (eqb-true s.0 t.0 e)
 same_parts : {A B : Type 0} (make : A → B → Loc) (a c : A) (b d : B) → a ≡ c → b ≡ d → make a b ≡ make c d
 same_parts {A} {B} make a c b d e f = ap (λ (x : A). make x b) e ∙ ap (make c) f
 
+-- locations whose test holds are the same
 pub same_loc_true : (a b : Loc) → loc_eq a b ≡ true → a ≡ b
 same_loc_true (Name o s) (Name p t) e =
     let both = and_parts (o.0 == p.0) (s.0 == t.0) e in same_parts Name o p s t (same_number o p both.0) (same_symbol s t both.1)
@@ -119,6 +126,7 @@ same_loc_true (Present o j) (Present p k) e =
 same_loc_true (Shape o) (Shape p) e = ap Shape (same_number o p e)
 same_loc_true _ _ e = absurd (false≢true e)
 
+-- the test of each location holds of that location
 pub loc_itself : (a : Loc) → loc_eq a a ≡ true
 loc_itself (Name o s) = and_from (o.0 == o.0) (s.0 == s.0) (eq-eqb o.0 o.0 refl) (eq-eqb s.0 s.0 refl)
 loc_itself (Attr o s) = and_from (o.0 == o.0) (s.0 == s.0) (eq-eqb o.0 o.0 refl) (eq-eqb s.0 s.0 refl)
@@ -126,5 +134,6 @@ loc_itself (Item o k) = and_from (o.0 == o.0) (key_eq k k) (eq-eqb o.0 o.0 refl)
 loc_itself (Present o k) = and_from (o.0 == o.0) (key_eq k k) (eq-eqb o.0 o.0 refl) (key_itself k)
 loc_itself (Shape o) = eq-eqb o.0 o.0 refl
 
+-- the test holds of locations that are the same
 pub true_same_loc : (a b : Loc) → a ≡ b → loc_eq a b ≡ true
 true_same_loc a b e = subst (λ (l : Loc). loc_eq a l ≡ true) e (loc_itself a)

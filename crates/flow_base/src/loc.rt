@@ -50,5 +50,4 @@ pub fn same_loc(a: &Loc, b: &Loc) -> bool
 pub fn same_law()
     ensures keys { (a b : Key) → (IsTrue (key_eq a b) ↔ (a ≡ b)) }
     ensures locations { (a b : Loc) → (IsTrue (loc_eq a b) ↔ (a ≡ b)) }
-{
-}
+{}

@@ -1,12 +1,11 @@
 -- The answer to why a version is stale.
-use Rattle.std.proofs.Common.{◌≡◌, ◌≢◌, ℕ, zero, suc, ◌+◌, ◌-◌, ◌<◌, ◌≤◌, ◌⊎◌, Bool, true, false, cond, List, [], ◌∷◌, unwrap_or, refl, sym, ap, subst, ◌∙◌, ⊎_elim, arith}
-use Rattle.std.specs.Prelude.{Option, Some, None, IsTrue, filter, find, is_some}
-use Rattle.std.specs.Cmp.{IsTotalOrder}
+use Rattle.std.proofs.Common.{◌≡◌, ◌≢◌, ℕ, zero, suc, ◌+◌, ◌-◌, ◌<◌, ◌≤◌, Bool, true, false, cond, List, [], ◌∷◌, unwrap_or, refl, sym, ap, subst, ◌∙◌, ⊎_elim, arith}
+use Rattle.std.specs.Prelude.{Option, Some, None, filter, find, is_some}
 use Rattle.std.specs.List.{Contains, range_with_len}
 use Rattle.std.specs.Ordering.{is_lt, ordering_reverse}
 use Rattle.std.specs.declared.cmp.Ordering.{Ordering}
 use Rattle.std.specs.declared.cmp.Ordering.TheVariants.{Less, Equal, Greater}
-use Rattle.std.proofs.lemmas.Bool.{cases_lt, false≢true, true≢false}
+use Rattle.std.proofs.lemmas.Bool.{false≢true, true≢false}
 use Rattle.std.proofs.lemmas.Cmp.{alike_right, tied_itself}
 use Rattle.std.proofs.Math.Nat.{eq-or-lt_of_le}
 use Rattle.flow_base.specs.declared.event.Event.{Event}
@@ -22,15 +21,18 @@ use Rattle.trace_events.proofs.Reached.{ancestor_listed, near_listed, near_withi
 use Rattle.trace_events.proofs.StaleTest.{runs_after_has, stale_within_true, true_stale_within}
 use Rattle.trace_events.proofs.TotalOrder.{equal_less, greater_less, version_total}
 
+-- what lacks is not there
 some_none : {T : Type 0} (x : T) → None ≡ Some x → ⊥
 some_none x e = false≢true (ap is_some e)
 
 -- ---- the least of a list
 
 module _ (names : List (List ℕ)) where
+  -- the order of versions
   abbrev compare : Version → Version → Ordering
   compare = version_cmp names
 
+  -- no version is before itself
   itself : (v : Version) → compare v v ≢ Less
   itself v e = equal_less (sym (tied_itself (version_total names) v) ∙ e)
 
@@ -44,28 +46,34 @@ module _ (names : List (List ℕ)) where
   not_before w u v Equal e f n q = n (alike_right (version_total names) u v w e ∙ q)
   not_before w u v Greater e f n q = n ((version_total names).trans w v u q ((version_total names).antisymm v u ∙ ap ordering_reverse e))
 
+  -- what passes the test is before
   is_less : (o : Ordering) → is_lt o ≡ true → o ≡ Less
   is_less Less t = refl
   is_less Equal t = absurd (false≢true t)
   is_less Greater t = absurd (false≢true t)
 
+  -- u is in the list, and nothing there is before it
   abbrev IsLeast : List Version → Version → Type 0
   IsLeast vs u = Contains vs u × ((w : Version) → Contains vs w → compare w u ≢ Less)
 
+  -- what holds of the first and of the rest holds of all
   head_cases : (v : Version) (vs : List Version) (P : Version → Type 0) → P v → ((w : Version) → Contains vs w → P w) → (w : Version) → Contains (v ∷ vs) w → P w
   head_cases v vs P here later w (zero, lt, e) = subst P e here
   head_cases v vs P here later w (suc k, lt, e) = later w (k, omega arith, e)
 
+  -- the first against the least of the rest
   least_of_two : (v u : Version) (vs : List Version) (b : Bool) → is_lt (compare u v) ≡ b → IsLeast vs u → IsLeast (v ∷ vs) (cond b u v)
   least_of_two v u vs true t l =
       (Contains-cons v u vs l.0, head_cases v vs (λ w. compare w u ≢ Less) (not_after u v (is_less (compare u v) t)) l.1)
   least_of_two v u vs false t l =
       (Contains-head v vs, head_cases v vs (λ w. compare w v ≢ Less) (itself v) (λ w c. not_before w u v (compare u v) refl t (l.1 w c)))
 
+  -- the least, if there is one
   abbrev LeastIf : List Version → Option Version → Type 0
   LeastIf vs None = (w : Version) → Contains vs w → ⊥
   LeastIf vs (Some u) = IsLeast vs u
 
+  -- the same with one version more
   least_head : (v : Version) (vs : List Version) (o : Option Version) → LeastIf vs o → IsLeast (v ∷ vs) (lesser names v o)
   least_head v vs None none = (Contains-head v vs, head_cases v vs (λ w. compare w v ≢ Less) (itself v) (λ w c. absurd (none w c)))
   least_head v vs (Some u) l = least_of_two v u vs (is_lt (compare u v)) refl l
@@ -75,17 +83,21 @@ module _ (names : List (List ℕ)) where
   least_is [] = λ w c. no_member w c
   least_is (v ∷ vs) = least_head v vs (least names vs) (least_is vs)
 
+  -- what is found is the least
   pub least_found : (vs : List Version) (u : Version) → least names vs ≡ Some u → IsLeast vs u
   least_found vs u e = subst (λ (o : Option Version). LeastIf vs o) e (least_is vs)
 
+  -- where none is found nothing is there
   pub least_none : (vs : List Version) (w : Version) → least names vs ≡ None → Contains vs w → ⊥
   least_none vs w e = subst (λ (o : Option Version). LeastIf vs o) e (least_is vs) w
 
 -- ---- the first run that overwrote
 
+-- m is the first of n numbers from a on that passes
 abbrev FirstIn : (ℕ → Bool) → ℕ → ℕ → ℕ → Type 0
 FirstIn p a n m = (p m ≡ true) × (a ≤ m) × (m < a + n) × ((k : ℕ) → a ≤ k → p k ≡ true → m ≤ k)
 
+-- the same with one number more, which passes or not
 find_range_head : (p : ℕ → Bool) (a n m : ℕ) (b : Bool) → p a ≡ b → (find p (range_with_len (a + 1) n) ≡ Some m → FirstIn p (a + 1) n m)
     → cond b (Some a) (find p (range_with_len (a + 1) n)) ≡ Some m → FirstIn p a (suc n) m
 find_range_head p a n m true t rest e =
@@ -93,16 +105,22 @@ find_range_head p a n m true t rest e =
     (subst (λ (k : ℕ). p k ≡ true) same t, omega arith, omega arith, λ k le u. omega arith)
 find_range_head p a n m false t rest e =
     let f = rest e in
-    let low : a + 1 ≤ m = f.1 in let high : m < a + 1 + n = f.2 in
-    (f.0, omega arith, omega arith, λ k le u. ⊎_elim
-    (λ (same : a ≡ k). absurd (true≢false (sym (subst (λ (x : ℕ). p x ≡ true) (sym same) u) ∙ t)))
-    (λ (less : a < k). f.3 k (omega arith) u)
-    (eq-or-lt_of_le le))
+    let low : a + 1 ≤ m = f.1 in let high : m < a + 1 + n = f.2 in (
+      f.0,
+      omega arith,
+      omega arith,
+      λ k le u. ⊎_elim
+          (λ (same : a ≡ k). absurd (true≢false (sym (subst (λ (x : ℕ). p x ≡ true) (sym same) u) ∙ t)))
+          (λ (less : a < k). f.3 k (omega arith) u)
+          (eq-or-lt_of_le le),
+    )
 
+-- a search over a range finds the first
 find_range : (p : ℕ → Bool) (a n m : ℕ) → find p (range_with_len a n) ≡ Some m → FirstIn p a n m
 find_range p a zero m e = absurd (some_none m e)
 find_range p a (suc n) m e = find_range_head p a n m (p a) refl (find_range p (a + 1) n m) e
 
+-- the first run that overwrote, among those after run r
 first_overwrite_is : (h : History) (r n m : ℕ) (u : Version) → first_overwrite h r n u ≡ Some m
     → (wrote h m u ≡ true) × (r < m) × (m ≤ n) × ((k : ℕ) → r < k → wrote h k u ≡ true → m ≤ k)
 first_overwrite_is h r n m u e =
@@ -113,6 +131,7 @@ first_overwrite_is h r n m u e =
 -- ---- the answer
 
 module _ (names : List (List ℕ)) (traces : List (List Event)) where
+  -- the history of the traces
   abbrev now : History
   now = history_of traces
 
@@ -120,24 +139,29 @@ module _ (names : List (List ℕ)) (traces : List (List Event)) where
   abbrev test : ℕ → Version → Version → Bool
   test n v = λ u. is_some (first_overwrite now (run_of v) n u)
 
+  -- an ancestor that was overwritten is listed
   overwrite_listed : (n : ℕ) (v u : Version) (m : ℕ) → IsOverwrite now n v u m → Contains (filter (test n v) (ancestors_of now v)) u
   overwrite_listed n v u m o = Contains-filter_of (test n v) (ancestors_of now v) u (ancestor_listed traces o.reached)
       (find_some (λ k. wrote now k u) (runs_after (run_of v) n) m (runs_after_has (run_of v) n m o.after o.upto) o.written)
 
+  -- what is listed is an ancestor that was overwritten
   listed_ancestor : (n : ℕ) (v u : Version) → Contains (filter (test n v) (ancestors_of now v)) u → Ancestor now v u × (test n v u ≡ true)
   listed_ancestor n v u c =
       let found = Contains-filter (test n v) (ancestors_of now v) u c in (reached_ancestor now (count_of_writes now) v u found.0, found.1)
 
+  -- a near version that was stale is listed
   stale_near_listed : (v u : Version) → Near now v u → Stale now (run_of v - 1) u → Contains (filter (is_stale now (run_of v - 1)) (near_of now v)) u
   stale_near_listed v u nr st = Contains-filter_of (is_stale now (run_of v - 1)) (near_of now v) u (near_listed traces nr)
       (true_stale_within traces (run_of u + 1) (omega arith) st)
 
+  -- what is listed is a near version that was stale
   listed_stale_near : (v u : Version) → Contains (filter (is_stale now (run_of v - 1)) (near_of now v)) u → Near now v u × Stale now (run_of v - 1) u
   listed_stale_near v u c = let found = Contains-filter (is_stale now (run_of v - 1)) (near_of now v) u c in
       (near_within_near now (count_of_writes now) v u found.0, stale_within_true traces (run_of u + 1) (run_of v - 1) u found.1)
 
   -- ---- what the answer says
 
+  -- the reason of a least overwritten ancestor
   dep_says : (n : ℕ) (v u : Version) (reason : Reason) (o : Option ℕ) → first_overwrite now (run_of v) n u ≡ o → least_overwritten names now n v ≡ Some u
       → reason_with (run_of v) u o ≡ Some reason → IsLeastOverwrite names now n v reason
   dep_says n v u reason None f l e = absurd (some_none reason e)
@@ -151,12 +175,14 @@ module _ (names : List (List ℕ)) (traces : List (List Event)) where
         first = λ k q. is.3 k q.after q.written;
       })
 
+  -- the least near version that was stale
   near_says : (v u : Version) → least_stale_near names now v ≡ Some u → IsLeastStaleNear names now v u
   near_says v u l =
       let found = least_found names (filter (is_stale now (run_of v - 1)) (near_of now v)) u l in
       let is = listed_stale_near v u found.0 in
       record { reached = is.0; stale = is.1; least = λ w nr st. found.1 w (stale_near_listed v w nr st) }
 
+  -- where no least one is found no ancestor was overwritten
   none_overwritten : (n : ℕ) (v : Version) → least_overwritten names now n v ≡ None → (w : Version) (m : ℕ) → IsOverwrite now n v w m → ⊥
   none_overwritten n v l w m o = least_none names (filter (test n v) (ancestors_of now v)) w l (overwrite_listed n v w m o)
 
@@ -164,41 +190,49 @@ module _ (names : List (List ℕ)) (traces : List (List Event)) where
   first_there : (n : ℕ) (v u : Version) → least_overwritten names now n v ≡ Some u → is_some (first_overwrite now (run_of v) n u) ≡ true
   first_there n v u l = (listed_ancestor n v u (least_found names (filter (test n v) (ancestors_of now v)) u l).0).1
 
+  -- a reason that comes from a near version
   carried_says : (n : ℕ) (v : Version) (reason : Reason) (go_on : Version → Option Reason) (near : Option Version) → least_overwritten names now n v ≡ None
       → least_stale_near names now v ≡ near → ((u : Version) → go_on u ≡ Some reason → IsWhy names now (run_of v - 1) u reason)
       → or_carried go_on None near ≡ Some reason → IsWhy names now n v reason
   carried_says n v reason go_on None none l rest e = absurd (some_none reason e)
   carried_says n v reason go_on (Some u) none l rest e = otherwise (none_overwritten n v none) (near_says v u l) (rest u e)
 
+  -- a reason that comes from an ancestor
   first_says : (n : ℕ) (v u : Version) (reason : Reason) (go_on : Version → Option Reason) (near : Option Version) (o : Option ℕ) → least_overwritten names now n v ≡ Some u
       → first_overwrite now (run_of v) n u ≡ o → or_carried go_on (reason_with (run_of v) u o) near ≡ Some reason → IsWhy names now n v reason
   first_says n v u reason go_on near None l f e = absurd (false≢true (ap is_some (sym f) ∙ first_there n v u l))
   first_says n v u reason go_on near (Some m) l f e = overwrites (dep_says n v u reason (Some m) f l e)
 
+  -- the two cases of a reason
   step_says : (n : ℕ) (v : Version) (reason : Reason) (go_on : Version → Option Reason) (o near : Option Version) → least_overwritten names now n v ≡ o
       → least_stale_near names now v ≡ near → ((u : Version) → go_on u ≡ Some reason → IsWhy names now (run_of v - 1) u reason)
       → or_carried go_on (reason_of_dep now n v o) near ≡ Some reason → IsWhy names now n v reason
   step_says n v reason go_on None near l m rest e = carried_says n v reason go_on near l m rest e
   step_says n v reason go_on (Some u) near l m rest e = first_says n v u reason go_on near (first_overwrite now (run_of v) n u) l refl e
 
+  -- what a reason says
   pub reason_says : (runs n : ℕ) (v : Version) (reason : Reason) → reason_within runs names now n v ≡ Some reason → IsWhy names now n v reason
   reason_says zero n v reason e = absurd (some_none reason e)
   reason_says (suc runs) n v reason e = step_says n v reason (reason_within runs names now (run_of v - 1)) (least_overwritten names now n v) (least_stale_near names now v)
       refl refl (λ u q. reason_says runs (run_of v - 1) u reason q) e
 
+  -- what has a reason is stale
   why_stale : {n : ℕ} {v : Version} {reason : Reason} → IsWhy names now n v reason → Stale now n v
   why_stale (overwrites l) = overwritten l.overwrite.reached l.overwrite.written l.overwrite.after l.overwrite.upto
   why_stale (otherwise none l w) = carried l.reached l.stale
 
   -- ---- when there is one
 
+  -- the reason that is there
   some_reason : (o : Option Reason) → is_some o ≡ true → (reason : Reason) × (o ≡ Some reason)
   some_reason None t = absurd (false≢true t)
   some_reason (Some reason) t = (reason, refl)
 
+  -- where a reason is found the version is stale
   pub reason_stale : (runs n : ℕ) (v : Version) → is_some (reason_within runs names now n v) ≡ true → Stale now n v
   reason_stale runs n v t = let some = some_reason (reason_within runs names now n v) t in why_stale (reason_says runs n v some.0 some.1)
 
+  -- an ancestor that was overwritten gives a reason
   dep_there : (n : ℕ) (v u : Version) (go_on : Version → Option Reason) (near : Option Version) (o : Option ℕ) → is_some o ≡ true
       → is_some (or_carried go_on (reason_with (run_of v) u o) near) ≡ true
   dep_there n v u go_on near None t = absurd (false≢true t)
@@ -210,6 +244,7 @@ module _ (names : List (List ℕ)) (traces : List (List Event)) where
       absurd (none_overwritten n v l u m (record { reached = a; written = w; after = lt; upto = le }))
   near_there n v l (carried {u = u} nr st) = (u, nr, st)
 
+  -- a near version that was stale gives a reason
   near_step : (n : ℕ) (v : Version) (go_on : Version → Option Reason) (near : Option Version) → least_overwritten names now n v ≡ None
       → least_stale_near names now v ≡ near → ((u : Version) → Near now v u → Stale now (run_of v - 1) u → is_some (go_on u) ≡ true) → Stale now n v
       → is_some (or_carried go_on None near) ≡ true
@@ -218,12 +253,14 @@ module _ (names : List (List ℕ)) (traces : List (List Event)) where
       absurd (least_none names (filter (is_stale now (run_of v - 1)) (near_of now v)) is.0 m (stale_near_listed v is.0 is.1 is.2))
   near_step n v go_on (Some u) l m rest s = let is = near_says v u m in rest u is.reached is.stale
 
+  -- one of the two cases gives a reason
   stale_step : (n : ℕ) (v : Version) (go_on : Version → Option Reason) (o near : Option Version) → least_overwritten names now n v ≡ o
       → least_stale_near names now v ≡ near → ((u : Version) → Near now v u → Stale now (run_of v - 1) u → is_some (go_on u) ≡ true) → Stale now n v
       → is_some (or_carried go_on (reason_of_dep now n v o) near) ≡ true
   stale_step n v go_on None near l m rest s = near_step n v go_on near l m rest s
   stale_step n v go_on (Some u) near l m rest s = dep_there n v u go_on near (first_overwrite now (run_of v) n u) (first_there n v u l)
 
+  -- a stale version has a reason
   pub stale_reason : (runs n : ℕ) (v : Version) → run_of v < runs → Stale now n v → is_some (reason_within runs names now n v) ≡ true
   stale_reason zero n v lt s = absurd (omega arith)
   stale_reason (suc runs) n v lt s = stale_step n v (reason_within runs names now (run_of v - 1)) (least_overwritten names now n v) (least_stale_near names now v)

@@ -1,6 +1,6 @@
 -- The order of versions is total, up to ties.
-use Rattle.std.proofs.Common.{◌≡◌, ℕ, ℤ, pos, Bool, true, false, List, [], ◌∷◌, map, refl, sym, ap, subst, ◌∙◌}
-use Rattle.std.specs.Cmp.{IsTotalOrder}
+use Rattle.std.proofs.Common.{◌≡◌, ℕ, ℤ, pos, List, [], ◌∷◌, map, refl, sym, ap, subst, ◌∙◌}
+use Rattle.std.specs.Cmp.{IsTotalOrder, then_flip}
 use Rattle.std.specs.Cmp.Lexicographic.{slice_cmp}
 use Rattle.std.specs.List.{AllByRecursion}
 use Rattle.std.specs.Ordering.{int_cmp, is_eq, is_lt, nat_cmp, on, ordering_reverse, ordering_then, then_cmp}
@@ -17,31 +17,31 @@ use Rattle.flow_base.specs.declared.loc.Loc.{Loc}
 use Rattle.flow_base.specs.declared.loc.Loc.TheVariants.{Name, Attr, Item, Present, Shape}
 use Rattle.trace_events.specs.declared.version.Version.{Version}
 use Rattle.trace_events.specs.declared.version.Version.TheVariants.{Empty, Written}
-use Rattle.trace_events.specs.Order.{key_cmp, kind_of, loc_cmp, object_of, open_cmp, parts_cmp, text_of, version_cmp}
+use Rattle.trace_events.specs.Order.{key_cmp, loc_cmp, open_cmp, parts_cmp, text_of, version_cmp}
 
 -- ---- comparisons
 
+-- what is after is not before
 pub greater_less : Greater ≡ Less → ⊥
 greater_less e = false≢true (ap is_lt e)
 
+-- what is level is not before
 pub equal_less : Equal ≡ Less → ⊥
 equal_less e = false≢true (ap is_lt e)
 
+-- what is before is not level
 less_equal : Less ≡ Equal → ⊥
 less_equal e = false≢true (ap is_eq e)
 
+-- what is after is not level
 greater_equal : Greater ≡ Equal → ⊥
 greater_equal e = false≢true (ap is_eq e)
 
+-- a second order that says nothing
 then_equal : (o : Ordering) → ordering_then o Equal ≡ o
 then_equal Less = refl
 then_equal Equal = refl
 then_equal Greater = refl
-
-then_flip : (a b : Ordering) → ordering_then (ordering_reverse a) (ordering_reverse b) ≡ ordering_reverse (ordering_then a b)
-then_flip Less b = refl
-then_flip Equal b = refl
-then_flip Greater b = refl
 
 -- what has the answers of a total order is one
 total_same : {K : Type 0} (R S : K → K → Ordering) → ((x y : K) → R x y ≡ S x y) → IsTotalOrder S → IsTotalOrder R
@@ -59,12 +59,15 @@ record Ordered {K : Type 0} (R : K → K → Ordering) (a : K) : Type 0 where
   congr : (b c : K) → R a b ≡ Equal → R a c ≡ R b c
   alike : (b c : K) → R b c ≡ Equal → R a b ≡ R a c
 
+-- a total order has the laws at each element
 ordered_total : {K : Type 0} {R : K → K → Ordering} → IsTotalOrder R → (a : K) → Ordered R a
 ordered_total o a = record { flip = λ b. o.antisymm a b; trans = λ b c. o.trans a b c; congr = λ b c. o.congr a b c; alike = λ b c e. alike_right o b c a e }
 
+-- an order by what elements give
 ordered_on : {K J : Type 0} (f : K → J) (R : J → J → Ordering) (a : K) → Ordered R (f a) → Ordered (on f R) a
 ordered_on f R a o = record { flip = λ b. o.flip (f b); trans = λ b c. o.trans (f b) (f c); congr = λ b c. o.congr (f b) (f c); alike = λ b c. o.alike (f b) (f c) }
 
+-- an order with the same answers
 ordered_same : {K : Type 0} (R S : K → K → Ordering) (a : K) → ((x y : K) → R x y ≡ S x y) → Ordered S a → Ordered R a
 ordered_same R S a same o = record {
   flip = λ b. same a b ∙ o.flip b ∙ ap ordering_reverse (sym (same b a));
@@ -75,6 +78,7 @@ ordered_same R S a same o = record {
 
 -- by one order, and then by another
 module _ {K : Type 0} (R S : K → K → Ordering) (a : K) (p : Ordered R a) (q : Ordered S a) where
+  -- the law of steps, by the two first answers
   then_trans : (b c : K) (r s : Ordering) → R a b ≡ r → R b c ≡ s → ordering_then r (S a b) ≡ Less → ordering_then s (S b c) ≡ Less
       → ordering_then (R a c) (S a c) ≡ Less
   then_trans b c Less Less er es e f = ap (λ o. ordering_then o (S a c)) (p.trans b c er es)
@@ -85,16 +89,19 @@ module _ {K : Type 0} (R S : K → K → Ordering) (a : K) (p : Ordered R a) (q 
   then_trans b c Equal Greater er es e f = absurd (greater_less f)
   then_trans b c Greater s er es e f = absurd (greater_less e)
 
+  -- the law of level elements on the left, by the first answer
   then_congr : (b c : K) (r : Ordering) → R a b ≡ r → ordering_then r (S a b) ≡ Equal → ordering_then (R a c) (S a c) ≡ ordering_then (R b c) (S b c)
   then_congr b c Less er e = absurd (less_equal e)
   then_congr b c Equal er e = ap (λ o. ordering_then o (S a c)) (p.congr b c er) ∙ ap (ordering_then (R b c)) (q.congr b c e)
   then_congr b c Greater er e = absurd (greater_equal e)
 
+  -- the law of level elements on the right, by the first answer
   then_alike : (b c : K) (r : Ordering) → R b c ≡ r → ordering_then r (S b c) ≡ Equal → ordering_then (R a b) (S a b) ≡ ordering_then (R a c) (S a c)
   then_alike b c Less er e = absurd (less_equal e)
   then_alike b c Equal er e = ap (λ o. ordering_then o (S a b)) (p.alike b c er) ∙ ap (ordering_then (R a c)) (q.alike b c e)
   then_alike b c Greater er e = absurd (greater_equal e)
 
+  -- one order after the other has the laws
   ordered_then : Ordered (then_cmp R S) a
   ordered_then = record {
     flip = λ b. ap (λ o. ordering_then o (S a b)) (p.flip b) ∙ ap (ordering_then (ordering_reverse (R b a))) (q.flip b) ∙ then_flip (R b a) (S b a);
@@ -105,9 +112,11 @@ module _ {K : Type 0} (R S : K → K → Ordering) (a : K) (p : Ordered R a) (q 
 
 -- lists whose elements have the laws
 module _ {X : Type 0} (R : X → X → Ordering) where
+  -- by the first element, and then by the rest
   abbrev cons_cmp : X × List X → X × List X → Ordering
   cons_cmp = then_cmp (on (λ p. p.0) R) (on (λ p. p.1) (slice_cmp R))
 
+  -- the empty list
   ordered_nil : Ordered (slice_cmp R) []
   ordered_nil = record { flip = flip; trans = trans; congr = congr; alike = alike }
     where
@@ -130,6 +139,7 @@ module _ {X : Type 0} (R : X → X → Ordering) where
       alike (y ∷ ys) [] e = absurd (greater_equal e)
       alike (y ∷ ys) (z ∷ zs) e = refl
 
+  -- a list by its first element and its rest
   ordered_cons : (x : X) (xs : List X) → Ordered cons_cmp (x, xs) → Ordered (slice_cmp R) (x ∷ xs)
   ordered_cons x xs o = record { flip = flip; trans = trans; congr = congr; alike = alike }
     where
@@ -153,6 +163,7 @@ module _ {X : Type 0} (R : X → X → Ordering) where
       alike (y ∷ ys) [] e = absurd (greater_equal e)
       alike (y ∷ ys) (z ∷ zs) e = o.alike (y, ys) (z, zs) e
 
+  -- each list whose elements have the laws
   ordered_list : (xs : List X) → AllByRecursion (Ordered R) xs → Ordered (slice_cmp R) xs
   ordered_list [] each = ordered_nil
   ordered_list (x ∷ xs) each = ordered_cons x xs
@@ -161,6 +172,7 @@ module _ {X : Type 0} (R : X → X → Ordering) where
 
 -- ---- keys
 
+-- the parts of tuples are compared as lists
 parts_cmp-slice : (ps ks : List Key) → parts_cmp (map key_cmp ps) ks ≡ slice_cmp key_cmp ps ks
 parts_cmp-slice [] [] = refl
 parts_cmp-slice [] (k ∷ ks) = refl
@@ -171,24 +183,30 @@ parts_cmp-slice (p ∷ ps) (k ∷ ks) = ap (ordering_then (key_cmp p k)) (parts_
 abbrev Level : Type 0
 Level = ℕ × ℤ × List ℕ × List Key
 
+-- a level as its parts
 abbrev level : Key-F Key → Level
 level key.Nil = (0, pos 0, [], [])
 level (key.Int n) = (1, n, [], [])
 level (key.Text t) = (2, pos 0, t, [])
 level (key.Tuple ks) = (3, pos 0, [], ks)
 
+-- by the parts of a tuple
 abbrev by_part : Level → Level → Ordering
 by_part = on (λ l. l.3) (slice_cmp key_cmp)
 
+-- by text, and then by the parts
 abbrev by_text : Level → Level → Ordering
 by_text = then_cmp (on (λ l. l.2) (slice_cmp nat_cmp)) by_part
 
+-- by number, and then by the rest
 abbrev by_number : Level → Level → Ordering
 by_number = then_cmp (on (λ l. l.1) int_cmp) by_text
 
+-- by kind, and then by the rest
 abbrev level_cmp : Level → Level → Ordering
 level_cmp = then_cmp (on (λ l. l.0) nat_cmp) by_number
 
+-- levels are compared by these parts
 open_cmp-level : (x y : Key-F Key) → open_cmp (map-Key Key (Key → Ordering) key_cmp x) y ≡ level_cmp (level x) (level y)
 open_cmp-level key.Nil key.Nil = refl
 open_cmp-level key.Nil (key.Int n) = refl
@@ -207,10 +225,12 @@ open_cmp-level (key.Tuple ps) (key.Int n) = refl
 open_cmp-level (key.Tuple ps) (key.Text t) = refl
 open_cmp-level (key.Tuple ps) (key.Tuple ks) = parts_cmp-slice ps ks
 
+-- keys are compared by their levels
 key_cmp-level : (a b : Key) → key_cmp a b ≡ on (λ k. level (out-Key k)) level_cmp a b
 key_cmp-level a b = ap (λ (compare : Key → Ordering). compare b) (fold_out-Key (Key → Ordering) (λ x k. open_cmp x (out-Key k)) a)
     ∙ open_cmp-level (out-Key a) (out-Key b)
 
+-- a level whose parts have the laws
 ordered_level : (l : Level) → AllByRecursion (Ordered key_cmp) l.3 → Ordered level_cmp l
 ordered_level l each =
     ordered_then (on (λ x. x.0) nat_cmp) by_number l (ordered_on (λ x. x.0) nat_cmp l (ordered_total nat_cmp_total l.0))
@@ -218,9 +238,11 @@ ordered_level l each =
     (ordered_then (on (λ x. x.2) (slice_cmp nat_cmp)) by_part l (ordered_on (λ x. x.2) (slice_cmp nat_cmp) l (ordered_total nat_list_cmp_total l.2))
     (ordered_on (λ x. x.3) (slice_cmp key_cmp) l (ordered_list key_cmp l.3 each))))
 
+-- a key with the laws
 abbrev Known : Type 0
 Known = (k : Key) × Ordered key_cmp k
 
+-- the parts of a level with the laws
 known_parts : (y : Key-F Known) → AllByRecursion (Ordered key_cmp) (level (map-Key Known Key (λ e. e.0) y)).3
 known_parts key.Nil = tt
 known_parts (key.Int n) = tt
@@ -231,6 +253,7 @@ known_parts (key.Tuple ps) = all ps
     all [] = tt
     all (p ∷ ps) = (p.1, all ps)
 
+-- each key has the laws
 ordered_key : (k : Key) → Ordered key_cmp k
 ordered_key = ind-Key (Ordered key_cmp) (λ x y e. subst (λ (z : Key-F Key). Ordered key_cmp (roll-Key z)) e (step y))
   where
@@ -240,6 +263,7 @@ ordered_key = ind-Key (Ordered key_cmp) (λ x y e. subst (λ (z : Key-F Key). Or
         (ordered_on (λ k. level (out-Key k)) level_cmp (roll-Key x)
         (subst (λ (z : Key-F Key). Ordered level_cmp (level z)) (sym (out-roll-Key x)) (ordered_level (level x) (known_parts y))))
 
+-- the order of keys
 pub key_total : IsTotalOrder key_cmp
 key_total = record {
   antisymm = λ x y. (ordered_key x).flip y;
@@ -254,6 +278,7 @@ module _ (names : List (List ℕ)) where
   abbrev Parts : Type 0
   Parts = ℕ × ℕ × List ℕ × List Key
 
+  -- a location as its parts
   abbrev parts : Loc → Parts
   parts (Name o s) = (o.0, 0, text_of names s, [])
   parts (Attr o s) = (o.0, 1, text_of names s, [])
@@ -261,9 +286,11 @@ module _ (names : List (List ℕ)) where
   parts (Present o k) = (o.0, 3, [], k ∷ [])
   parts (Shape o) = (o.0, 4, [], [])
 
+  -- by object, kind, name and key
   abbrev by_parts : Parts → Parts → Ordering
   by_parts = then_cmp (on (λ p. p.0) nat_cmp) (then_cmp (on (λ p. p.1) nat_cmp) (then_cmp (on (λ p. p.2) (slice_cmp nat_cmp)) (on (λ p. p.3) (slice_cmp key_cmp))))
 
+  -- locations are compared by these parts
   loc_cmp-parts : (a b : Loc) → loc_cmp names a b ≡ on parts by_parts a b
   loc_cmp-parts (Name o s) (Name p t) = ap (ordering_then (nat_cmp o.0 p.0)) (sym (then_equal (slice_cmp nat_cmp (text_of names s) (text_of names t))))
   loc_cmp-parts (Attr o s) (Attr p t) = ap (ordering_then (nat_cmp o.0 p.0)) (sym (then_equal (slice_cmp nat_cmp (text_of names s) (text_of names t))))
@@ -272,6 +299,7 @@ module _ (names : List (List ℕ)) where
   loc_cmp-parts (Shape o) (Shape p) = refl
   loc_cmp-parts _ _ = refl
 
+  -- the order of locations
   loc_total : IsTotalOrder (loc_cmp names)
   loc_total = total_same (loc_cmp names) (on parts by_parts) loc_cmp-parts
       (on_total parts (then_total (on_total (λ p. p.0) nat_cmp_total) (then_total (on_total (λ p. p.1) nat_cmp_total)
@@ -283,19 +311,23 @@ module _ (names : List (List ℕ)) where
   abbrev Spot : Type 0
   Spot = ℕ × List Loc × ℕ × ℕ
 
+  -- a version as its parts
   abbrev spot : Version → Spot
   spot (Empty l) = (0, l ∷ [], 0, 0)
   spot (Written run place) = (1, [], run.0, place)
 
+  -- what stood before any run first, by location; then by run and place
   abbrev by_spot : Spot → Spot → Ordering
   by_spot = then_cmp (on (λ p. p.0) nat_cmp) (then_cmp (on (λ p. p.1) (slice_cmp (loc_cmp names))) (then_cmp (on (λ p. p.2) nat_cmp) (on (λ p. p.3) nat_cmp)))
 
+  -- versions are compared by these parts
   version_cmp-spot : (u v : Version) → version_cmp names u v ≡ on spot by_spot u v
   version_cmp-spot (Empty a) (Empty b) = sym (ap (λ o. ordering_then o Equal) (then_equal (loc_cmp names a b)) ∙ then_equal (loc_cmp names a b))
   version_cmp-spot (Empty a) (Written run place) = refl
   version_cmp-spot (Written run place) (Empty b) = refl
   version_cmp-spot (Written run place) (Written other at) = refl
 
+  -- the order of versions
   pub version_total : IsTotalOrder (version_cmp names)
   version_total = total_same (version_cmp names) (on spot by_spot) version_cmp-spot
       (on_total spot (then_total (on_total (λ p. p.0) nat_cmp_total) (then_total (on_total (λ p. p.1) (lists_total loc_total))
