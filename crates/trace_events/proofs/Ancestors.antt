@@ -1,5 +1,5 @@
 -- What a version rests on is older.
-use Rattle.std.proofs.Common.{◌≡◌, ℕ, zero, suc, ◌+◌, ◌-◌, ◌<◌, ◌≤◌, ◌⊎◌, inl, inr, Bool, true, false, cond, List, [], ◌∷◌, map, refl, sym, ap, subst, ◌∙◌, ⊎_elim, eqb-true, arith}
+use Rattle.std.proofs.Common.{◌≡◌, ℕ, zero, suc, ◌+◌, ◌-◌, ◌<◌, ◌≤◌, inl, inr, Bool, true, false, cond, List, [], ◌∷◌, refl, subst, ⊎_elim, eqb-true, arith}
 use Rattle.std.specs.Prelude.{Option, Some, None, ◌==◌}
 use Rattle.std.specs.List.{Contains, AllByRecursion}
 use Rattle.std.proofs.lemmas.List.Elements.{All-from_recursion, All-contains}
@@ -23,6 +23,7 @@ writes_ascend [] (suc n) = tt
 writes_ascend (t ∷ ts) (suc zero) = reading_of-ascending t
 writes_ascend (t ∷ ts) (suc (suc n)) = writes_ascend ts (suc n)
 
+-- the same for the first write, whose place is looked up, or not
 uses_below_head : (i : ℕ) (w : Written) (ws : List Written) (s : Seen) (b : Bool) → (w.place == i) ≡ b → AllByRecursion (IsSeenBelow w.place) w.uses
     → (Contains (uses_at (write_at ws i)) s → IsSeenBelow i s)
     → Contains (uses_at (cond b (Some w) (write_at ws i))) s → IsSeenBelow i s
@@ -41,6 +42,7 @@ after_zero : (h : History) (n i : ℕ) (s : Seen) → Contains (uses_at (write_a
 after_zero h zero i s c = absurd (no_member s c)
 after_zero h (suc n) i s c = omega arith
 
+-- a bound on the run of the chosen version
 or_earlier_bound : (n : ℕ) (o : Option ℕ) (v : Version) → run_of v ≤ n → run_of (or_earlier (suc n) o v) ≤ suc n
 or_earlier_bound n (Some place) v le = omega arith
 or_earlier_bound n None v le = omega arith
@@ -50,12 +52,14 @@ pub run_of-current : (h : History) (n : ℕ) (l : Loc) → run_of (current h n l
 run_of-current h zero l = omega arith
 run_of-current h (suc n) l = or_earlier_bound n (last_write l (writes_of h (suc n))) (current h n l) (run_of-current h n l)
 
+-- what a use of a run saw is older than the write on which it was gathered
 seen_older : (h : History) (run : RunNo) (i : ℕ) (s : Seen) → 0 < run.0 → IsSeenBelow i s → IsOlder (version_seen h run.0 s) (at_write run i)
 seen_older h run i (before l) pos b = inl (let le : run_of (current h (run.0 - 1) l) ≤ run.0 - 1 = run_of-current h (run.0 - 1) l in omega arith)
 seen_older h run i (own place) pos b = inr (refl, b)
 
 -- ---- one step
 
+-- what a version directly rests on is older
 pub dep_older : (traces : List (List Event)) (v u : Version) → Contains (deps (history_of traces) v) u → IsOlder u v
 dep_older traces (Empty l) u c = absurd (no_member u c)
 dep_older traces (at_write run i) u c =
@@ -66,6 +70,7 @@ dep_older traces (at_write run i) u c =
 
 -- ---- many steps
 
+-- older than what is older
 pub older_trans : (u w v : Version) → IsOlder u w → IsOlder w v → IsOlder u v
 older_trans u w v a b = ⊎_elim
     (λ (x : run_of u < run_of w). ⊎_elim
@@ -78,22 +83,27 @@ older_trans u w v a b = ⊎_elim
     b)
     a
 
+-- no version is older than itself
 pub older_itself : (v : Version) → IsOlder v v → ⊥
 older_itself v a = ⊎_elim (λ (x : run_of v < run_of v). omega arith) (λ (x : (run_of v ≡ run_of v) × (place_of v < place_of v)). omega arith) a
 
+-- an ancestor is older
 pub ancestor_older : (traces : List (List Event)) {v u : Version} → Ancestor (history_of traces) v u → IsOlder u v
 ancestor_older traces (direct {v = v} {u = u} c) = dep_older traces v u c
 ancestor_older traces (further {v = v} {w = w} {u = u} c a) = older_trans u w v (ancestor_older traces a) (dep_older traces v w c)
 
+-- no version is its own ancestor
 pub ancestor_itself : (traces : List (List Event)) (v : Version) → Ancestor (history_of traces) v v → ⊥
 ancestor_itself traces v a = older_itself v (ancestor_older traces a)
 
 -- a version without dependences has neither ancestors nor near versions
 module _ (h : History) where
+  -- no ancestors
   pub ancestor_none : {v u : Version} → deps h v ≡ [] → Ancestor h v u → ⊥
   ancestor_none e (direct {u = u} c) = no_member u (subst (λ (ds : List Version). Contains ds u) e c)
   ancestor_none e (further {w = w} c a) = no_member w (subst (λ (ds : List Version). Contains ds w) e c)
 
+  -- no near versions
   pub near_none : {v u : Version} → deps h v ≡ [] → Near h v u → ⊥
   near_none e (earlier {u = u} c lt) = no_member u (subst (λ (ds : List Version). Contains ds u) e c)
   near_none e (within {w = w} c same n) = no_member w (subst (λ (ds : List Version). Contains ds w) e c)

@@ -5,3 +5,5 @@ pub mod StepLaw
 pub mod Reached
 pub mod StaleTest
 pub mod Places
+pub mod TotalOrder
+pub mod Reasons

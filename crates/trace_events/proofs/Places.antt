@@ -1,6 +1,6 @@
 -- Which places of a trace its summary speaks of.
 use Rattle.std.proofs.Common.{◌≡◌, ℕ, zero, suc, ◌+◌, ◌<◌, ◌≤◌, ◌⊎◌, inl, inr, Bool, true, false, cond, List, [], ◌∷◌, ◌++◌, length, get_or, unwrap_or, refl, sym, ap, subst, ◌∙◌, ⊎_elim, arith}
-use Rattle.std.specs.Prelude.{Option, Some, None, is_some, slice_get}
+use Rattle.std.specs.Prelude.{Option, Some, None, is_some}
 use Rattle.std.specs.List.{fold, AllPairs, Contains}
 use Rattle.std.proofs.lemmas.Bool.{false≢true, true≢false, false_from_ne_true}
 use Rattle.std.proofs.lemmas.List.Elements.{Contains-append_cases, Contains-append_left, Contains-append_right}
@@ -11,31 +11,36 @@ use Rattle.flow_base.specs.declared.event.Event.TheVariants.{Use, Place, Write, 
 use Rattle.flow_base.specs.declared.event.ReadHow.{ReadHow}
 use Rattle.flow_base.specs.declared.event.ReadHow.TheVariants.{Use as ByUse, Place as ByPlace}
 use Rattle.flow_base.specs.declared.loc.Loc.{Loc}
-use Rattle.trace_events.specs.Trace.{IsAt, IsReadBeforeWrite, IsStartRead, Reading, Seen, StartRead, Written, all_uses, before, last_write, or_else, own, read_event, reading_of, seen_after, seen_from, start, start_read, step, summary_of}
+use Rattle.trace_events.specs.Trace.{IsAt, IsReadBeforeWrite, IsStartRead, Reading, StartRead, Written, all_uses, last_write, or_else, read_event, reading_of, seen_after, seen_from, start, start_read, step, summary_of}
 use Rattle.trace_events.proofs.Lists.{no_member, Contains-head}
 use Rattle.trace_events.proofs.Reading.{IsAscendingFrom, place_step, reading_of-ascending}
 
 -- ---- the last write
 
+-- a choice before one that may lack
 or_else-cond : {T : Type 0} (b : Bool) (x : T) (o other : Option T) → or_else (cond b (Some x) o) other ≡ cond b (Some x) (or_else o other)
 or_else-cond true x o other = refl
 or_else-cond false x o other = refl
 
+-- the last write after one write more
 last_write_push : (l : Loc) (ws : List Written) (w : Written) → last_write l (ws ++ w ∷ []) ≡ cond (loc_eq w.location l) (Some w.place) (last_write l ws)
 last_write_push l [] w = refl
 last_write_push l (x ∷ xs) w =
     ap (λ o. or_else o (cond (loc_eq x.location l) (Some x.place) None)) (last_write_push l xs w)
     ∙ or_else-cond (loc_eq w.location l) w.place (last_write l xs) (cond (loc_eq x.location l) (Some x.place) None)
 
+-- what is there does not lack
 no_some : {T : Type 0} (x : T) → Some x ≡ None → ⊥
 no_some x e = true≢false (ap is_some e)
 
+-- a choice lacks where its test fails and the rest lacks
 none_cond : (b : Bool) (p : ℕ) (o : Option ℕ) → cond b (Some p) o ≡ None → (b ≡ false) × (o ≡ None)
 none_cond true p o e = absurd (no_some p e)
 none_cond false p o e = (refl, e)
 
 -- ---- what an event is not
 
+-- whether the event is a write
 is_write : Event → Bool
 is_write (Write l) = true
 is_write _ = false
@@ -73,12 +78,14 @@ step_none r CallOut l n other = n
 
 -- ---- start reads
 
+-- a read that is kept as a start read is that read, of what no write so far wrote
 start_read_is : (k l : Loc) (did how : ReadHow) (o : Option ℕ) → Contains (start_read (seen_from k o) did) (record { location = l; how = how })
     → (o ≡ None) × (k ≡ l) × (read_event k did ≡ read_event l how)
 start_read_is k l did how (Some place) c = absurd (no_member (record { location = l; how = how }) c)
 start_read_is k l did how None (zero, lt, e) = (refl, ap (λ (x : StartRead). x.location) e, ap (λ (x : StartRead). read_event x.location x.how) e)
 start_read_is k l did how None (suc i, lt, e) = absurd (omega arith)
 
+-- after one read more
 read_step_at : (r : Reading) (k l : Loc) (did how : ReadHow) → Contains (r.reads ++ start_read (seen_after r.writes k) did) (record { location = l; how = how })
     → Contains r.reads (record { location = l; how = how }) ⊎ ((last_write l r.writes ≡ None) × (read_event k did ≡ read_event l how))
 read_step_at r k l did how c = ⊎_elim
@@ -109,15 +116,18 @@ read_kept r (Close how) x c = c
 read_kept r CallIn x c = c
 read_kept r CallOut x c = c
 
+-- the same after all events
 read_kept_all : (es : List Event) (r : Reading) (x : StartRead) → Contains r.reads x → Contains (fold step r es).reads x
 read_kept_all [] r x c = c
 read_kept_all (e ∷ es) r x c = read_kept_all es (step r e) x (read_kept r e x c)
 
+-- a read of what no write so far wrote is kept
 read_new_at : (r : Reading) (l : Loc) (how : ReadHow) → last_write l r.writes ≡ None
     → Contains (r.reads ++ start_read (seen_after r.writes l) how) (record { location = l; how = how })
 read_new_at r l how n = subst (λ (o : Option ℕ). Contains (r.reads ++ start_read (seen_from l o) how) (record { location = l; how = how })) (sym n)
     (Contains-append_right r.reads (record { location = l; how = how } ∷ []) (record { location = l; how = how }) (Contains-head (record { location = l; how = how }) []))
 
+-- the same for the event of that read
 read_new : (r : Reading) (l : Loc) (how : ReadHow) → last_write l r.writes ≡ None → Contains (step r (read_event l how)).reads (record { location = l; how = how })
 read_new r l ByUse n = read_new_at r l ByUse n
 read_new r l ByPlace n = read_new_at r l ByPlace n
@@ -127,6 +137,7 @@ abbrev ReadsFirst : List Event → Loc → ReadHow → Type 0
 ReadsFirst [] l how = ⊥
 ReadsFirst (e ∷ es) l how = (e ≡ read_event l how) ⊎ ((e ≡ Write l → ⊥) × ReadsFirst es l how)
 
+-- a start read after all events was there before, or is the first of its location
 read_first : (es : List Event) (r : Reading) (l : Loc) (how : ReadHow) → Contains (fold step r es).reads (record { location = l; how = how })
     → Contains r.reads (record { location = l; how = how }) ⊎ ((last_write l r.writes ≡ None) × ReadsFirst es l how)
 read_first [] r l how c = inl c
@@ -139,6 +150,7 @@ read_first (e ∷ es) r l how c = ⊎_elim
     let parts = none_step r e l new.0 in inr (parts.0, inr (parts.1, new.1)))
     (read_first es (step r e) l how c)
 
+-- a read before any write of its location is kept
 first_read : (es : List Event) (r : Reading) (l : Loc) (how : ReadHow) → last_write l r.writes ≡ None → ReadsFirst es l how
     → Contains (fold step r es).reads (record { location = l; how = how })
 first_read [] r l how n f = absurd f
@@ -148,9 +160,11 @@ first_read (e ∷ es) r l how n f = ⊎_elim
     (λ (later : (e ≡ Write l → ⊥) × ReadsFirst es l how). first_read es (step r e) l how (step_none r e l n later.0) later.1)
     f
 
+-- what is there is the same
 some_same : (x y : Event) → Some x ≡ Some y → x ≡ y
 some_same x y e = ap (λ o. unwrap_or o x) e
 
+-- the place of such a read
 first_at : (es : List Event) (l : Loc) (how : ReadHow) → ReadsFirst es l how → (place : ℕ) × IsReadBeforeWrite es l how place
 first_at [] l how f = absurd f
 first_at (e ∷ es) l how f = ⊎_elim
@@ -164,23 +178,27 @@ first_at (e ∷ es) l how f = ⊎_elim
     none_earlier e es l place other none zero lt q = other (some_same e (Write l) q)
     none_earlier e es l place other none (suc j) lt q = none j (omega arith) q
 
+-- and back from its place
 at_first : (es : List Event) (l : Loc) (how : ReadHow) (place : ℕ) → IsReadBeforeWrite es l how place → ReadsFirst es l how
 at_first [] l how place q = absurd (no_some (read_event l how) (sym q.0))
 at_first (e ∷ es) l how zero q = inl (some_same e (read_event l how) q.0)
 at_first (e ∷ es) l how (suc place) q =
     inr (λ w. q.1 0 (omega arith) (ap Some w), at_first es l how place (q.0, λ j lt x. q.1 (suc j) (omega arith) x))
 
+-- a start read stands at a place, before any write of its location
 pub start_read_at : (es : List Event) (l : Loc) (how : ReadHow) → IsStartRead es l how → (place : ℕ) × IsReadBeforeWrite es l how place
 start_read_at es l how c = first_at es l how (⊎_elim
     (λ (old : Contains [] (record { location = l; how = how })). absurd (no_member {X = StartRead} (record { location = l; how = how }) old))
     (λ (new : (last_write l [] ≡ None) × ReadsFirst es l how). new.1)
     (read_first es start l how c))
 
+-- what stands so is a start read
 pub at_start_read : (es : List Event) (l : Loc) (how : ReadHow) → (place : ℕ) × IsReadBeforeWrite es l how place → IsStartRead es l how
 at_start_read es l how q = first_read es start l how refl (at_first es l how q.0 q.1)
 
 -- ---- writes
 
+-- a write that is kept after one event more was kept before, or is that event
 write_step : (r : Reading) (e : Event) (w : Written) → Contains (step r e).writes w → Contains r.writes w ⊎ ((w.place ≡ r.place) × (e ≡ Write w.location))
 write_step r (Use k) w c = inl c
 write_step r (Place k) w c = inl c
@@ -197,6 +215,7 @@ write_step r (Close how) w c = inl c
 write_step r CallIn w c = inl c
 write_step r CallOut w c = inl c
 
+-- what was written stays
 write_kept : (r : Reading) (e : Event) (w : Written) → Contains r.writes w → Contains (step r e).writes w
 write_kept r (Use k) w c = c
 write_kept r (Place k) w c = c
@@ -206,10 +225,12 @@ write_kept r (Close how) w c = c
 write_kept r CallIn w c = c
 write_kept r CallOut w c = c
 
+-- the same after all events
 write_kept_all : (es : List Event) (r : Reading) (w : Written) → Contains r.writes w → Contains (fold step r es).writes w
 write_kept_all [] r w c = c
 write_kept_all (e ∷ es) r w c = write_kept_all es (step r e) w (write_kept r e w c)
 
+-- a write that is kept after all events was kept before, or is the event at its place
 write_at_place : (es : List Event) (r : Reading) (w : Written) → Contains (fold step r es).writes w
     → Contains r.writes w ⊎ ((k : ℕ) × (w.place ≡ r.place + k) × IsAt es k (Write w.location))
 write_at_place [] r w c = inl c
@@ -222,17 +243,23 @@ write_at_place (e ∷ es) r w c = ⊎_elim
     inr (suc new.0, omega (arith, new.1, place_step r e), new.2))
     (write_at_place es (step r e) w c)
 
+-- a write at a place is kept
 place_written : (es : List Event) (r : Reading) (k : ℕ) (l : Loc) → IsAt es k (Write l)
     → (w : Written) × Contains (fold step r es).writes w × (w.place ≡ r.place + k) × (w.location ≡ l)
 place_written [] r k l q = absurd (no_some (Write l) (sym q))
 place_written (e ∷ es) r zero l q =
-    let w : Written = record { place = r.place; location = l; uses = all_uses r.open_uses } in
-    (w, write_kept_all es (step r e) w (subst (λ (x : Event). Contains (step r x).writes w) (sym (some_same e (Write l) q))
-    (Contains-append_right r.writes (w ∷ []) w (Contains-head w []))), omega arith, refl)
+    let w : Written = record { place = r.place; location = l; uses = all_uses r.open_uses } in (
+      w,
+      write_kept_all es (step r e) w (subst (λ (x : Event). Contains (step r x).writes w) (sym (some_same e (Write l) q))
+          (Contains-append_right r.writes (w ∷ []) w (Contains-head w []))),
+      omega arith,
+      refl,
+    )
 place_written (e ∷ es) r (suc k) l q =
     let rest = place_written es (step r e) k l q in
     (rest.0, rest.1, omega (arith, rest.2, place_step r e), rest.3)
 
+-- a write that is kept stands at its place
 written_at : (es : List Event) (w : Written) → Contains (summary_of es).writes w → IsAt es w.place (Write w.location)
 written_at es w c = ⊎_elim
     (λ (old : Contains [] w). absurd (no_member {X = Written} w old))
@@ -240,16 +267,19 @@ written_at es w c = ⊎_elim
     let same : new.0 ≡ w.place = omega (arith, new.1) in subst (λ (p : ℕ). IsAt es p (Write w.location)) same new.2)
     (write_at_place es start w c)
 
+-- the write at a place is kept
 pub at_written : (es : List Event) (place : ℕ) (l : Loc) → IsAt es place (Write l)
     → (w : Written) × Contains (summary_of es).writes w × (w.place ≡ place) × (w.location ≡ l)
 at_written es place l q = let is = place_written es start place l q in (is.0, is.1, omega (arith, is.2), is.3)
 
+-- a place of a kept write is one of a write of its location
 pub kept_write_at : (es : List Event) (place : ℕ) (l : Loc) → (w : Written) × Contains (summary_of es).writes w × (w.place ≡ place) × (w.location ≡ l)
     → IsAt es place (Write l)
 kept_write_at es place l k = subst (λ (p : ℕ). IsAt es p (Write l)) k.2 (subst (λ (x : Loc). IsAt es k.0.place (Write x)) k.3 (written_at es k.0 k.1))
 
 -- ---- places ascend
 
+-- no place is before the first
 first_place : (p : ℕ) (ws : List Written) (k : ℕ) (d : Written) → IsAscendingFrom p ws → k < length ws → p ≤ (get_or ws k d).place
 first_place p [] k d a lt = absurd (omega arith)
 first_place p (w ∷ ws) zero d a lt = a.0
@@ -258,6 +288,7 @@ first_place p (w ∷ ws) (suc k) d a lt =
     let here : p ≤ w.place = a.0 in
     omega arith
 
+-- of two writes the earlier one has the lower place
 ascending_pairs : (p : ℕ) (ws : List Written) (i j : ℕ) (d : Written) → IsAscendingFrom p ws → i < j → j < length ws → (get_or ws i d).place < (get_or ws j d).place
 ascending_pairs p [] i j d a lt in_list = absurd (omega arith)
 ascending_pairs p (w ∷ ws) i zero d a lt in_list = absurd (omega arith)
@@ -265,5 +296,6 @@ ascending_pairs p (w ∷ ws) zero (suc j) d a lt in_list =
     let later : w.place + 1 ≤ (get_or ws j d).place = first_place (w.place + 1) ws j d a.2 (omega arith) in omega arith
 ascending_pairs p (w ∷ ws) (suc i) (suc j) d a lt in_list = ascending_pairs (w.place + 1) ws i j d a.2 (omega arith) (omega arith)
 
+-- the places of the kept writes ascend
 pub places_ascend : (es : List Event) → AllPairs (λ (w x : Written). w.place < x.place) (summary_of es).writes
 places_ascend es i j d lt in_list = ascending_pairs 0 (reading_of es).writes i j d (reading_of-ascending es) lt in_list

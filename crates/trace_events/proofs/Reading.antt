@@ -1,11 +1,8 @@
 -- What reading a trace keeps: the places of its writes ascend, and own uses are of earlier places.
-use Rattle.std.proofs.Common.{◌≡◌, ℕ, zero, suc, ◌+◌, ◌<◌, ◌≤◌, Bool, true, false, cond, List, [], ◌∷◌, ◌++◌, length, reverse, take, get_or, refl, sym, subst, ap, ◌∙◌, arith}
-use Rattle.std.specs.Prelude.{Option, Some, None, ◌==◌}
-use Rattle.std.specs.List.{All, AllByRecursion, flat_map, fold}
+use Rattle.std.proofs.Common.{◌≡◌, ℕ, zero, suc, ◌+◌, ◌<◌, ◌≤◌, Bool, true, false, cond, List, [], ◌∷◌, ◌++◌, reverse, refl, sym, subst, arith}
+use Rattle.std.specs.Prelude.{Option, Some, None}
+use Rattle.std.specs.List.{AllByRecursion, flat_map, fold}
 use Rattle.std.proofs.lemmas.Grind.{reverse_onto}
-use Rattle.std.proofs.lemmas.List.{take_more}
-use Rattle.std.proofs.lemmas.List.Elements.{All-from_recursion}
-use Rattle.std.proofs.lemmas.List.Sums.{fold_push}
 use Rattle.flow_base.specs.Same.{loc_eq}
 use Rattle.flow_base.specs.declared.event.Event.{Event}
 use Rattle.flow_base.specs.declared.event.Event.TheVariants.{Use, Place, Write, Open, Close, CallIn, CallOut}
@@ -17,19 +14,23 @@ use Rattle.trace_events.specs.Trace.{Written, Reading, Seen, before, own, all_us
 -- ---- of each element
 
 module _ {X : Type 0} (P : X → Type 0) where
+  -- both parts
   pub each-append : (xs ys : List X) → AllByRecursion P xs → AllByRecursion P ys → AllByRecursion P (xs ++ ys)
   each-append [] ys a b = b
   each-append (x ∷ xs) ys a b = (a.0, each-append xs ys a.1 b)
 
+  -- a weaker fact
   pub each-weaker : (Q : X → Type 0) → ((x : X) → P x → Q x) → (xs : List X) → AllByRecursion P xs → AllByRecursion Q xs
   each-weaker Q f [] a = tt
   each-weaker Q f (x ∷ xs) a = (f x a.0, each-weaker Q f xs a.1)
 
+  -- the other way round
   pub each-reverse : (xs : List X) → AllByRecursion P xs → AllByRecursion P (reverse xs)
   each-reverse [] a = tt
   each-reverse (x ∷ xs) a =
       subst (λ (l : List X). AllByRecursion P l) (sym (reverse_onto xs x [])) (each-append (reverse xs) (x ∷ []) (each-reverse xs a.1) (a.0, tt))
 
+  -- lists joined end to end
   pub each-flat : (gs : List (List X)) → AllByRecursion (AllByRecursion P) gs → AllByRecursion P (flat_map (λ g. g) gs)
   each-flat [] a = tt
   each-flat (g ∷ gs) a = each-append g (flat_map (λ g. g) gs) a.0 (each-flat gs a.1)
@@ -46,12 +47,15 @@ abbrev pub IsAscendingFrom : ℕ → List Written → Type 0
 IsAscendingFrom p [] = Unit {0}
 IsAscendingFrom p (w ∷ ws) = (p ≤ w.place) × AllByRecursion (IsSeenBelow w.place) w.uses × IsAscendingFrom (w.place + 1) ws
 
+-- all uses are of earlier places
 abbrev AllSeenBelow : ℕ → List Seen → Type 0
 AllSeenBelow q ss = AllByRecursion (IsSeenBelow q) ss
 
+-- all gathered uses are of earlier places
 abbrev AllGatheredBelow : ℕ → List (List Seen) → Type 0
 AllGatheredBelow q gs = AllByRecursion (AllSeenBelow q) gs
 
+-- all writes are at earlier places
 abbrev AllPlacedBelow : ℕ → List Written → Type 0
 AllPlacedBelow q ws = AllByRecursion (λ w. w.place < q) ws
 
@@ -60,19 +64,23 @@ record IsKept (r : Reading) : Type 0 where
   placed : AllPlacedBelow r.place r.writes
   gathered : AllGatheredBelow r.place r.open_uses
 
+-- one use more
 gathered_gather : (q : ℕ) (s : Seen) (gs : List (List Seen)) → IsSeenBelow q s → AllGatheredBelow q gs → AllGatheredBelow q (gather s gs)
 gathered_gather q s [] b a = tt
 gathered_gather q s (g ∷ gs) b a = (each-append (IsSeenBelow q) g (s ∷ []) a.0 (b, tt), a.1)
 
+-- a gathering less
 gathered_forget : (q : ℕ) (gs : List (List Seen)) → AllGatheredBelow q gs → AllGatheredBelow q (forget gs)
 gathered_forget q [] a = tt
 gathered_forget q (g ∷ gs) a = a.1
 
+-- a gathering handed out
 gathered_hand_out : (q : ℕ) (gs : List (List Seen)) → AllGatheredBelow q gs → AllGatheredBelow q (hand_out gs)
 gathered_hand_out q [] a = tt
 gathered_hand_out q (g ∷ []) a = tt
 gathered_hand_out q (g ∷ outer ∷ gs) a = (each-append (IsSeenBelow q) outer g a.1.0 a.0, a.1.1)
 
+-- a statement that ends
 gathered_close : (q : ℕ) (how : How) (n : ℕ) (gs : List (List Seen)) → AllGatheredBelow q gs → AllGatheredBelow q (close how n gs)
 gathered_close q Normal zero gs a = gathered_forget q gs a
 gathered_close q Normal (suc n) gs a = gathered_hand_out q gs a
@@ -81,14 +89,17 @@ gathered_close q Break n gs a = gathered_hand_out q gs a
 gathered_close q Continue n gs a = gathered_hand_out q gs a
 gathered_close q Return n gs a = gathered_hand_out q gs a
 
+-- one place further, for a use
 below_more_seen : (q : ℕ) (s : Seen) → IsSeenBelow q s → IsSeenBelow (q + 1) s
 below_more_seen q (before l) b = tt
 below_more_seen q (own i) b = omega arith
 
+-- one place further, for gathered uses
 below_more_gathered : (q : ℕ) (gs : List (List Seen)) → AllGatheredBelow q gs → AllGatheredBelow (q + 1) gs
 below_more_gathered q gs a =
     each-weaker (AllSeenBelow q) (AllSeenBelow (q + 1)) (λ g b. each-weaker (IsSeenBelow q) (IsSeenBelow (q + 1)) (below_more_seen q) g b) gs a
 
+-- one place further, for writes
 below_more_placed : (q : ℕ) (ws : List Written) → AllPlacedBelow q ws → AllPlacedBelow (q + 1) ws
 below_more_placed q ws a = each-weaker (λ w. w.place < q) (λ w. w.place < q + 1) (λ w h. omega arith) ws a
 
@@ -98,6 +109,7 @@ seen_from_else q l p (Some i) b h k = k
 seen_from_else q l p None true h k = h
 seen_from_else q l p None false h k = tt
 
+-- the same after all writes
 seen_after_below : (q : ℕ) (l : Loc) (ws : List Written) → AllPlacedBelow q ws → IsSeenBelow q (seen_after ws l)
 seen_after_below q l [] a = tt
 seen_after_below q l (w ∷ ws) a = seen_from_else q l w.place (last_write l ws) (loc_eq w.location l) a.0 (seen_after_below q l ws a.1)
@@ -108,6 +120,7 @@ ascending_push : (p : ℕ) (ws : List Written) (w : Written) → p ≤ w.place �
 ascending_push p [] w le a b u = (le, u, tt)
 ascending_push p (x ∷ xs) w le a b u = (a.0, a.1, ascending_push (x.place + 1) xs w (let lt : x.place < w.place = b.0 in omega arith) a.2 b.1 u)
 
+-- one event more keeps all of it
 kept_step : (r : Reading) (e : Event) → IsKept r → IsKept (step r e)
 kept_step r (Use l) k = record {
   ascending = k.ascending;
@@ -152,6 +165,7 @@ kept_fold : (es : List Event) (r : Reading) → IsKept r → IsKept (fold step r
 kept_fold [] r k = k
 kept_fold (e ∷ es) r k = kept_fold es (step r e) (kept_step r e k)
 
+-- each event is one place more
 pub place_step : (r : Reading) (e : Event) → (step r e).place ≡ r.place + 1
 place_step r (Use l) = refl
 place_step r (Place l) = refl
@@ -161,12 +175,6 @@ place_step r (Close how) = refl
 place_step r CallIn = refl
 place_step r CallOut = refl
 
-place_fold : (es : List Event) (r : Reading) → (fold step r es).place ≡ r.place + length es
-place_fold [] r = omega arith
-place_fold (e ∷ es) r = place_fold es (step r e) ∙ (let one : (step r e).place ≡ r.place + 1 = place_step r e in omega arith)
-
+-- the places of the writes of a trace ascend, and own uses are of earlier places
 pub reading_of-ascending : (es : List Event) → IsAscendingFrom 0 (reading_of es).writes
 reading_of-ascending es = (kept_fold es start (record { ascending = tt; placed = tt; gathered = tt })).ascending
-
-pub reading_of-length : (es : List Event) → (reading_of es).place ≡ length es
-reading_of-length es = place_fold es start ∙ (omega arith)

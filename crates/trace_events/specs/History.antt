@@ -1,6 +1,6 @@
 -- Versions over a history, the list of what is kept of its runs. Run 1 comes first; run 0 stands for the time before all
 -- runs. All functions are total: a version that the history lacks has no location and rests on nothing.
-use Rattle.std.specs.Prelude.{◌≡◌, ◌⊎◌, ℕ, zero, suc, ◌-◌, ◌<◌, ◌==◌, Bool, false, List, [], ◌∷◌, ◌++◌, map, Option, Some, None, slice_index_or}
+use Rattle.std.specs.Prelude.{◌≡◌, ◌⊎◌, ℕ, zero, suc, ◌-◌, ◌<◌, ◌==◌, Bool, false, List, [], ◌++◌, map, Option, Some, None, slice_index_or}
 use Rattle.std.specs.List.{find, list_any}
 use Rattle.flow_base.specs.Same.{loc_eq}
 use Rattle.flow_base.specs.declared.event.Event.{Event}

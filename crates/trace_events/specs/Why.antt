@@ -1,17 +1,47 @@
 -- Why a version is stale.
-use Rattle.std.specs.Prelude.{ℕ, zero, suc, ◌+◌, ◌-◌, List, [], ◌∷◌, Option, Some, None, option_map, if◌then◌else◌, is_some, filter}
+use Rattle.std.specs.Prelude.{◌≡◌, ◌≢◌, ℕ, zero, suc, ◌+◌, ◌-◌, ◌<◌, ◌≤◌, List, [], ◌∷◌, Option, Some, None, if◌then◌else◌, is_some, filter, IsTrue}
 use Rattle.std.specs.List.{find}
 use Rattle.std.specs.Ordering.{is_lt}
+use Rattle.std.specs.declared.cmp.Ordering.TheVariants.{Less}
 use Rattle.trace_events.specs.declared.version.Version.{Version}
 use Rattle.trace_events.specs.History.{History, run_of, wrote}
 use Rattle.trace_events.specs.Decided.{ancestors_of, near_of, runs_after, is_stale}
 use Rattle.trace_events.specs.Order.{version_cmp}
+use Rattle.trace_events.specs.Staleness.{Ancestor, Near, Stale}
 
 -- the version that was overwritten, the run that computed what rests on it, and the first run that overwrote it
 pub record Reason : Type 0 where
   pub dep : Version
   pub computed : ℕ
   pub overwritten : ℕ
+
+-- ---- what a reason says
+
+-- u is an ancestor of v whose location run m wrote, after v's run and up to run n
+pub record IsOverwrite (h : History) (n : ℕ) (v u : Version) (m : ℕ) : Type 0 where
+  pub reached : Ancestor h v u
+  pub written : IsTrue (wrote h m u)
+  pub after : run_of v < m
+  pub upto : m ≤ n
+
+-- the least such ancestor, and the first such run for it
+pub record IsLeastOverwrite (names : List (List ℕ)) (h : History) (n : ℕ) (v : Version) (reason : Reason) : Type 0 where
+  pub overwrite : IsOverwrite h n v reason.dep reason.overwritten
+  pub computed : reason.computed ≡ run_of v
+  pub least : (u : Version) (m : ℕ) → IsOverwrite h n v u m → version_cmp names u reason.dep ≢ Less
+  pub first : (m : ℕ) → IsOverwrite h n v reason.dep m → reason.overwritten ≤ m
+
+-- u is a near version of v that was stale when v's run began, and no such version is before it
+pub record IsLeastStaleNear (names : List (List ℕ)) (h : History) (v u : Version) : Type 0 where
+  pub reached : Near h v u
+  pub stale : Stale h (run_of v - 1) u
+  pub least : (w : Version) → Near h v w → Stale h (run_of v - 1) w → version_cmp names w u ≢ Less
+
+-- why v is stale when run n has ended: where no ancestor was overwritten, it is why the near version was stale
+pub data IsWhy (names : List (List ℕ)) (h : History) : ℕ → Version → Reason → Type 0 where
+  overwrites : {n : ℕ} {v : Version} {reason : Reason} → IsLeastOverwrite names h n v reason → IsWhy names h n v reason
+  otherwise : {n : ℕ} {v u : Version} {reason : Reason} → ((w : Version) (m : ℕ) → IsOverwrite h n v w m → ⊥) → IsLeastStaleNear names h v u
+      → IsWhy names h (run_of v - 1) u reason → IsWhy names h n v reason
 
 -- ---- the least of a list
 

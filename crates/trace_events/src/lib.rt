@@ -5,5 +5,5 @@
 mod laws;
 mod version;
 
-pub use laws::{ancestors_law, decided_law, staleness_law, trace_law};
+pub use laws::{ancestors_law, decided_law, order_law, staleness_law, trace_law, why_law};
 pub use version::Version;

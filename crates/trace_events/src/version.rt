@@ -8,3 +8,17 @@ pub enum Version {
     Empty(Loc),
     Written(RunNo, u64),
 }
+
+#[cfg(test)]
+mod tests {
+    use super::*;
+    use flow_base::ObjRef;
+
+    #[test]
+    fn makes_each_kind(rt: HostRuntime) {
+        let empty = Version::Empty(Loc::Shape(ObjRef(3)));
+        assert!(rt; matches!(&empty, Version::Empty(Loc::Shape(ObjRef(3)))));
+        let written = Version::Written(RunNo(1), 2);
+        assert!(rt; matches!(&written, Version::Written(RunNo(1), 2)));
+    }
+}
