@@ -33,10 +33,7 @@ pub fn answer(
 {
     match a {
         Ask::Edit { cell, text } => edit(alloc, log, state, cell, text),
-        Ask::Run {
-            cell,
-            steps: named,
-        } => run(alloc, steps, log, state, cell, *named),
+        Ask::Run { cell, steps: named } => run(alloc, steps, log, state, cell, *named),
     }
 }
 
