@@ -1,5 +1,5 @@
 -- The table of names as a list: what a new name changes, and its index.
-use Rattle.std.proofs.Common.{◌≡◌, ◌≢◌, ℕ, zero, suc, ◌<◌, ◌+◌, List, [], ◌∷◌, ◌++◌, Bool, true, false, Option, Some, None, IsSome, is_some, AllPairs, Vec, Global, cond, length, get_or, slice_get, ap, sym, ◌∙◌, refl, map, subst, arith}
+use Rattle.std.proofs.Common.{◌≡◌, ◌≢◌, ℕ, zero, suc, ◌<◌, List, [], ◌∷◌, ◌++◌, Bool, true, false, Option, Some, None, IsSome, is_some, AllPairs, Vec, Global, cond, length, get_or, slice_get, ap, sym, ◌∙◌, refl, map, subst, arith}
 use Rattle.std.specs.Str.{bytes_eq}
 use Rattle.std.specs.Ordering.{nat_cmp, eq_by_cmp, match_ordering}
 use Rattle.std.specs.declared.cmp.Ordering.{Ordering}
@@ -94,7 +94,6 @@ module _ {K X : Type 0} (key : K → List ℕ) where
       ∙ find-put order nat_list_cmp_total q (key k) v (keyed es)
       ∙ ap (λ b. cond b (Some v) (find order q (keyed es))) (is_eq-slice_cmp q (key k))
       ∙ ap (cond (bytes_eq q (key k)) (Some v)) (find-keyed es q)
-
 
 -- the laws of symbols
 head_at : (n : List ℕ) (ns : List (List ℕ)) (s : List ℕ) (symbol : Sym) → (b : Bool) → (b ≡ true → n ≡ s) → ((t : Sym) → symbol_of ns s ≡ Some t → slice_get ns t.0 ≡ Some s) → cond b (Some (sym_at 0)) (next_sym (symbol_of ns s)) ≡ Some symbol → slice_get (n ∷ ns) symbol.0 ≡ Some s

@@ -24,3 +24,6 @@ pub use no_memory::NoMemory;
 pub use numbers::{CodeRef, ObjRef, RunNo, Sym};
 pub use py_text::PyText;
 pub use shared::Shared;
+
+#[cfg(test)]
+mod tests;

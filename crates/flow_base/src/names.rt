@@ -110,5 +110,4 @@ pub fn names_law()
         → AllPairs (λ s t. s ≢ t) names → slice_get names symbol.0 ≡ Some s
         → symbol_of names s ≡ Some symbol }
     ensures known { (names : List (List ℕ)) (t : List ℕ) → IsSome (symbol_of (with_name names t) t) }
-{
-}
+{}

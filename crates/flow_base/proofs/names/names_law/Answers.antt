@@ -1,4 +1,4 @@
-use Rattle.std.proofs.Common.{List, ℕ, ap}
+use Rattle.std.proofs.Common.{ap}
 use Rattle.flow_base.specs.Names.{symbol_of}
 use Rattle.flow_base.proofs.NamesTable.{same_from_symbols, symbol_of-with_name, symbol_at, symbol_of-place, IsSome-with_name}
 use Rattle.flow_base.proofs.names.names_law.Goals as goal
