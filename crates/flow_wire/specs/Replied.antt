@@ -102,7 +102,7 @@ reply_data (Syntax kind line) = object
 abbrev pub reply_text : Reply → List ℕ
 reply_text r = compact_text (reply_data r)
 
--- the reply refuses its line, and has the key `refused`
+-- the reply refuses its line
 abbrev pub is_refusal : Reply → Bool
 is_refusal (Edited cell) = false
 is_refusal (Ran cell end mark out run stale) = false

@@ -59,6 +59,7 @@ pub fn read_ask(alloc: Global, line: &[u8]) -> Result<Ask, BadAsk>
     find_ask(alloc, &value)
 }
 
+#[tactic(auto, using(crate::proofs::Lines::data_of_other))]
 fn read_value(alloc: Global, line: &[u8]) -> Result<Value, BadAsk>
     ensures { MatchResult result
         (λ value. data_of_line line.now ≡ Ok (view value))

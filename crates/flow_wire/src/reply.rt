@@ -1,5 +1,5 @@
 // The replies that a line can have.
-ghost use Rattle.std.specs.Prelude.{◌≡◌};
+ghost use Rattle.std.specs.Prelude.{◌≡◌, codes, is_some};
 
 use flow_base::{Kind, PyText, Shared, SyntaxKind};
 
@@ -90,12 +90,15 @@ pub enum Reply {
     },
 }
 
-ghost use Rattle.flow_wire.specs.Replied.{is_refusal};
+ghost use Rattle.serde_json.specs.Find.{get};
+ghost use Rattle.flow_wire.specs.Replied.{is_refusal, reply_data};
 
 impl Reply {
     /// Whether the line was refused. Takes no memory.
     pub fn is_refusal(&self) -> bool
-        ensures { result ≡ is_refusal self.now }
+        ensures which { result ≡ is_refusal self.now }
+        // the line of such a reply has the key `refused`, and the line of no other reply has it
+        ensures key { result ≡ is_some (get (codes "refused") (reply_data self.now)) }
     {
         match self {
             Reply::Edited { .. } | Reply::Ran { .. } => false,

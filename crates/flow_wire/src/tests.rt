@@ -1,96 +1,148 @@
 // Lines and replies as they stand on the wire.
 use crate::{
-    Ask, EndText, EventKind, MarkText, Reply, TextList, UnknownText, read_ask, write_reply,
+    Ask, BadAsk, EndText, EventKind, MarkText, Reply, TextList, UnknownText, read_ask, write_reply,
 };
 use flow_base::{Kind, NoMemory, PyText, SyntaxKind};
 use std::alloc::Global;
-use std::process::Abort;
 use std::test::Fail;
-
-// An ask as `edit CELL TEXT` or `run CELL`, else the name of the fault.
-fn told(alloc: Global, line: &[u8]) -> Result<String, Fail> {
-    let told = match read_ask(alloc, line) {
-        Ok(Ask::Edit { cell, text }) => {
-            let cell = cell.to_text(alloc)?;
-            let text = text.to_text(alloc)?;
-            format!(in alloc; "edit {cell} {text}")?
-        }
-        Ok(Ask::Run { cell, steps }) => {
-            let cell = cell.to_text(alloc)?;
-            match steps {
-                Some(steps) => format!(in alloc; "run {cell} for {steps}")?,
-                None => format!(in alloc; "run {cell}")?,
-            }
-        }
-        Err(bad) => format!(in alloc; "{bad:?}")?,
-    };
-    Ok(told)
-}
-
-#[test]
-fn reads_lines(rt: HostRuntime) -> Result<(), Fail> {
-    let alloc = rt.alloc();
-    for (line, want) in [
-        (r#"{"cell":"a","event":"run"}"#, "run a"),
-        (r#" { "event" : "run" , "cell" : "Az_09-" } "#, "run Az_09-"),
-        (r#"{"cell":"a","cell":"b","event":"run"}"#, "run b"),
-        (r#"{"c\u0065ll":"a","event":"run"}"#, "run a"),
-        (
-            r#"{"cell":"a","event":"edit","text":"x = 1\ny = x"}"#,
-            "edit a x = 1\ny = x",
-        ),
-        (
-            r#"{"cell":"a","event":"edit","text":"\u00e9\ud83d\ude00\""}"#,
-            "edit a é😀\"",
-        ),
-        (r#"{"cell":"a","event":"edit","text":""}"#, "edit a "),
-        ("", "Json"),
-        ("{", "Json"),
-        (r#"{"cell":"a","event":"run"} x"#, "Json"),
-        (r#"{"cell":"a","event":"edit","text":"\ud800"}"#, "Json"),
-        ("1e999", "Json"),
-        ("5", "Shape"),
-        (r#"{"event":"run"}"#, "Shape"),
-        (r#"{"cell":"a","event":"marks"}"#, "Shape"),
-        (r#"{"cell":"a","event":"run","more":null}"#, "Shape"),
-        (r#"{"cell":"a","event":"run","steps":5}"#, "Shape"),
-        (r#"{"cell":"a","event":"edit"}"#, "Shape"),
-        (r#"{"cell":"a","event":"edit","text":1}"#, "Shape"),
-        (r#"{"cell":"a","event":"edit","more":1,"text":""}"#, "Shape"),
-        (r#"{"cell":"","event":"run"}"#, "Shape"),
-        (r#"{"cell":"a b","event":"run"}"#, "Shape"),
-        (r#"{"cell":"é","event":"run"}"#, "Shape"),
-    ] {
-        assert_eq!(rt; told(alloc, line.as_bytes())?.as_str(), want, "at {line}");
-    }
-    assert_eq!(rt;
-        told(alloc, b"{\"cell\":\"\xff\",\"event\":\"run\"}")?.as_str(),
-        "Utf8"
-    );
-    Ok(())
-}
-
-#[test]
-fn keeps_limits(rt: HostRuntime) -> Result<(), Fail> {
-    let alloc = rt.alloc();
-    for (length, is_run) in [(64, true), (65, false)] {
-        let name = "a".repeat(alloc, length)?;
-        let line = format!(in alloc; r#"{{"cell":"{name}","event":"run"}}"#)?;
-        let run = format!(in alloc; "run {name}")?;
-        let want = if is_run { run.as_str() } else { "Shape" };
-        assert_eq!(rt; told(alloc, line.as_bytes())?.as_str(), want);
-    }
-    for (depth, want) in [(127, "Shape"), (128, "Json")] {
-        let open = "[".repeat(alloc, depth)?;
-        let close = "]".repeat(alloc, depth)?;
-        let line = format!(in alloc; "{open}{close}")?;
-        assert_eq!(rt; told(alloc, line.as_bytes())?.as_str(), want);
-    }
-    Ok(())
-}
 
 fn text(alloc: Global, t: &str) -> Result<PyText, NoMemory> {
     PyText::from_str(alloc, t)
+}
+
+fn is_run(ask: &Ask, of: &PyText) -> bool {
+    match ask {
+        Ask::Run { cell, steps: None } => cell.same(of),
+        _ => false,
+    }
+}
+
+fn is_edit(ask: &Ask, of: &PyText, to: &PyText) -> bool {
+    match ask {
+        Ask::Edit { cell, text } => cell.same(of) && text.same(to),
+        _ => false,
+    }
+}
+
+fn runs(alloc: Global, line: &str, cell: &str) -> Result<bool, BadAsk> {
+    let cell = text(alloc, cell)?;
+    let ask = read_ask(alloc, line.as_bytes())?;
+    Ok(is_run(&ask, &cell))
+}
+
+fn edits(alloc: Global, line: &str, cell: &str, to: &str) -> Result<bool, BadAsk> {
+    let cell = text(alloc, cell)?;
+    let to = text(alloc, to)?;
+    let ask = read_ask(alloc, line.as_bytes())?;
+    Ok(is_edit(&ask, &cell, &to))
+}
+
+fn fault(alloc: Global, line: &[u8]) -> Option<BadAsk> {
+    read_ask(alloc, line).err()
+}
+
+// So many arrays in one another.
+fn nested(alloc: Global, depth: usize) -> Result<Option<BadAsk>, NoMemory> {
+    let mut line = vec![in alloc; b'['; depth]?;
+    for _ in 0..depth {
+        line.push(b']')?;
+    }
+    Ok(fault(alloc, &line))
+}
+
+#[test]
+fn reads_asks(rt: HostRuntime) -> Result<(), Fail> {
+    let alloc = rt.alloc();
+    for (line, cell) in [
+        (r#"{"cell":"a","event":"run"}"#, "a"),
+        (r#" { "event" : "run" , "cell" : "Az_09-" } "#, "Az_09-"),
+        (r#"{"cell":"a","cell":"b","event":"run"}"#, "b"),
+        (r#"{"c\u0065ll":"a","event":"run"}"#, "a"),
+        (
+            r#"{"cell":"aaaaaaaaaaaaaaaaaaaaaaaaaaaaaaaaaaaaaaaaaaaaaaaaaaaaaaaaaaaaaaaa","event":"run"}"#,
+            "aaaaaaaaaaaaaaaaaaaaaaaaaaaaaaaaaaaaaaaaaaaaaaaaaaaaaaaaaaaaaaaa",
+        ),
+    ] {
+        assert!(rt; runs(alloc, line, cell)?);
+    }
+    for (line, text) in [
+        (r#"{"cell":"a","event":"edit","text":""}"#, ""),
+        (
+            r#"{"cell":"a","event":"edit","text":"x = 1\ny = x"}"#,
+            "x = 1\ny = x",
+        ),
+        (
+            r#"{"cell":"a","event":"edit","text":"\u00e9\ud83d\ude00\""}"#,
+            "é😀\"",
+        ),
+    ] {
+        assert!(rt; edits(alloc, line, "a", text)?);
+    }
+    Ok(())
+}
+
+#[test]
+fn refuses_lines(rt: HostRuntime) -> Result<(), Fail> {
+    let alloc = rt.alloc();
+    for line in [
+        "",
+        "{",
+        "1e999",
+        r#"{"cell":"a","event":"run"} x"#,
+        r#"{"cell":"a","event":"edit","text":"\ud800"}"#,
+    ] {
+        assert_eq!(rt; fault(alloc, line.as_bytes()), Some(BadAsk::Json));
+    }
+    for line in [
+        "5",
+        r#"{"event":"run"}"#,
+        r#"{"cell":"a","event":"marks"}"#,
+        r#"{"cell":"a","event":"run","more":null}"#,
+        r#"{"cell":"a","event":"run","steps":5}"#,
+        r#"{"cell":"a","event":"edit"}"#,
+        r#"{"cell":"a","event":"edit","text":1}"#,
+        r#"{"cell":"a","event":"edit","more":1,"text":""}"#,
+        r#"{"cell":"","event":"run"}"#,
+        r#"{"cell":"a b","event":"run"}"#,
+        r#"{"cell":"é","event":"run"}"#,
+        r#"{"cell":"aaaaaaaaaaaaaaaaaaaaaaaaaaaaaaaaaaaaaaaaaaaaaaaaaaaaaaaaaaaaaaaaa","event":"run"}"#,
+    ] {
+        assert_eq!(rt; fault(alloc, line.as_bytes()), Some(BadAsk::Shape));
+    }
+    assert_eq!(rt;
+        fault(alloc, b"{\"cell\":\"\xff\",\"event\":\"run\"}"),
+        Some(BadAsk::Utf8)
+    );
+    assert_eq!(rt; nested(alloc, 127)?, Some(BadAsk::Shape));
+    assert_eq!(rt; nested(alloc, 128)?, Some(BadAsk::Json));
+    Ok(())
+}
+
+fn is_written(alloc: Global, reply: Reply, want: &str) -> Result<bool, NoMemory> {
+    Ok(write_reply(alloc, &reply)?.as_slice() == want.as_bytes())
+}
+
+fn edited(alloc: Global) -> Result<Reply, NoMemory> {
+    let cell = text(alloc, "a")?;
+    Ok(Reply::Edited { cell })
+}
+
+fn two_paths(alloc: Global) -> Result<TextList, NoMemory> {
+    let mut paths = Vec::new(alloc);
+    paths.push(text(alloc, "z")?)?;
+    paths.push(text(alloc, "len(d)")?)?;
+    TextList::from_vec(alloc, paths)
+}
+
+fn stale(alloc: Global) -> Result<MarkText, NoMemory> {
+    let dep = text(alloc, "x")?;
+    let symbol = text(alloc, "z")?;
+    Ok(MarkText::Stale {
+        computed: 3,
+        dep,
+        overwritten: 4,
+        symbol,
+    })
 }
 
 fn ran(
@@ -98,82 +150,72 @@ fn ran(
     end: EndText,
     mark: MarkText,
     out: &str,
-    stale: &[&str],
+    stale: TextList,
 ) -> Result<Reply, NoMemory> {
-    let mut paths = Vec::new(alloc);
-    for path in stale {
-        paths.push(text(alloc, path)?)?;
-    }
+    let cell = text(alloc, "a")?;
+    let out = text(alloc, out)?;
     Ok(Reply::Ran {
-        cell: text(alloc, "a")?,
+        cell,
         end,
         mark,
-        out: text(alloc, out)?,
+        out,
         run: 7,
-        stale: TextList::from_vec(alloc, paths)?,
+        stale,
     })
 }
 
-fn expect(
-    rt: &impl Abort,
-    alloc: Global,
-    reply: Reply,
-    refused: bool,
-    want: &str,
-) -> Result<(), Fail> {
-    assert_eq!(rt;
-        write_reply(alloc, &reply)?.as_slice(),
-        want.as_bytes(),
-        "for {want}"
-    );
-    assert_eq!(rt; reply.is_refusal(), refused, "for {want}");
-    Ok(())
+// A run that printed nothing and used nothing stale.
+fn plain(alloc: Global, end: EndText, mark: MarkText) -> Result<Reply, NoMemory> {
+    let stale = TextList::from_vec(alloc, Vec::new(alloc))?;
+    ran(alloc, end, mark, "", stale)
+}
+
+fn raised(alloc: Global) -> Result<Reply, NoMemory> {
+    let name = text(alloc, "NameError")?;
+    let paths = two_paths(alloc)?;
+    let mark = stale(alloc)?;
+    ran(alloc, EndText::Raised(name), mark, "5\n\"é\"", paths)
 }
 
 #[test]
 fn writes_answers(rt: HostRuntime) -> Result<(), Fail> {
     let alloc = rt.alloc();
-    let cell = text(alloc, "a")?;
-    expect(
-        &rt,
-        alloc,
-        Reply::Edited { cell },
-        false,
-        r#"{"cell":"a","edited":true}"#,
-    )?;
-    let reply = ran(alloc, EndText::Ok, MarkText::Clean, "", &[])?;
+    let want = r#"{"cell":"a","edited":true}"#;
+    assert!(rt; is_written(alloc, edited(alloc)?, want)?);
     let want = r#"{"cell":"a","end":"ok","mark":"clean","out":"","run":7,"stale":[]}"#;
-    expect(&rt, alloc, reply, false, want)?;
-    let end = EndText::Raised(text(alloc, "NameError")?);
-    let mark = MarkText::Stale {
-        computed: 3,
-        dep: text(alloc, "x")?,
-        overwritten: 4,
-        symbol: text(alloc, "z")?,
-    };
-    let reply = ran(alloc, end, mark, "5\n\"é\"", &["z", "len(d)"])?;
-    let want =
-        r#"{"cell":"a","end":{"raised":"NameError"},"mark":{"stale":{"computed":3,"dep":"x","overwritten":4,"symbol":"z"}},"out":"5\n\"é\"","run":7,"stale":["z","len(d)"]}"#;
-    expect(&rt, alloc, reply, false, want)?;
-    let reply = ran(alloc, EndText::Range, MarkText::Form { run: 7 }, "", &[])?;
+    assert!(rt; is_written(alloc, plain(alloc, EndText::Ok, MarkText::Clean)?, want)?);
     let want =
         r#"{"cell":"a","end":"range","mark":{"unknown":{"kind":"form","node":[7,1]}},"out":"","run":7,"stale":[]}"#;
-    expect(&rt, alloc, reply, false, want)?;
-    for (kind, name) in [
-        (Kind::Callee, "callee"),
-        (Kind::Base, "base"),
-        (Kind::Name, "name"),
+    assert!(rt;
+        is_written(
+            alloc,
+            plain(alloc, EndText::Range, MarkText::Form { run: 7 })?,
+            want
+        )?
+    );
+    let want =
+        r#"{"cell":"a","end":{"raised":"NameError"},"mark":{"stale":{"computed":3,"dep":"x","overwritten":4,"symbol":"z"}},"out":"5\n\"é\"","run":7,"stale":["z","len(d)"]}"#;
+    assert!(rt; is_written(alloc, raised(alloc)?, want)?);
+    for (kind, want) in [
+        (
+            Kind::Callee,
+            r#"{"cell":"a","end":"steps","mark":{"unknown":{"kind":"callee","node":[2,9]}},"out":"","run":7,"stale":[]}"#,
+        ),
+        (
+            Kind::Base,
+            r#"{"cell":"a","end":"steps","mark":{"unknown":{"kind":"base","node":[2,9]}},"out":"","run":7,"stale":[]}"#,
+        ),
+        (
+            Kind::Name,
+            r#"{"cell":"a","end":"steps","mark":{"unknown":{"kind":"name","node":[2,9]}},"out":"","run":7,"stale":[]}"#,
+        ),
     ] {
         let mark = MarkText::Unknown(UnknownText {
             kind,
             run: 2,
             node: 9,
         });
-        let reply = ran(alloc, EndText::Steps, mark, "", &[])?;
-        let want = format!(in alloc;
-            r#"{{"cell":"a","end":"steps","mark":{{"unknown":{{"kind":"{name}","node":[2,9]}}}},"out":"","run":7,"stale":[]}}"#
-        )?;
-        expect(&rt, alloc, reply, false, want.as_str())?;
+        assert!(rt; is_written(alloc, plain(alloc, EndText::Steps, mark)?, want)?);
     }
     Ok(())
 }
@@ -181,16 +223,16 @@ fn writes_answers(rt: HostRuntime) -> Result<(), Fail> {
 #[test]
 fn writes_refusals(rt: HostRuntime) -> Result<(), Fail> {
     let alloc = rt.alloc();
+    assert!(rt; is_written(alloc, Reply::NoCell, r#"{"refused":"no cell"}"#)?);
+    assert!(rt; is_written(alloc, Reply::BadSteps, r#"{"refused":"steps"}"#)?);
     for (kind, want) in [
         (EventKind::Long, r#"{"kind":"long","refused":"event"}"#),
         (EventKind::Utf8, r#"{"kind":"utf8","refused":"event"}"#),
         (EventKind::Json, r#"{"kind":"json","refused":"event"}"#),
         (EventKind::Shape, r#"{"kind":"shape","refused":"event"}"#),
     ] {
-        expect(&rt, alloc, Reply::Event { kind }, true, want)?;
+        assert!(rt; is_written(alloc, Reply::Event { kind }, want)?);
     }
-    expect(&rt, alloc, Reply::NoCell, true, r#"{"refused":"no cell"}"#)?;
-    expect(&rt, alloc, Reply::BadSteps, true, r#"{"refused":"steps"}"#)?;
     for (kind, want) in [
         (
             SyntaxKind::Lex,
@@ -217,7 +259,14 @@ fn writes_refusals(rt: HostRuntime) -> Result<(), Fail> {
             r#"{"kind":"scope","line":12,"refused":"syntax"}"#,
         ),
     ] {
-        expect(&rt, alloc, Reply::Syntax { kind, line: 12 }, true, want)?;
+        assert!(rt; is_written(alloc, Reply::Syntax { kind, line: 12 }, want)?);
     }
+    Ok(())
+}
+
+#[test]
+fn tells_refusals(rt: HostRuntime) -> Result<(), Fail> {
+    assert!(rt; Reply::NoCell.is_refusal());
+    assert!(rt; !edited(rt.alloc())?.is_refusal());
     Ok(())
 }
