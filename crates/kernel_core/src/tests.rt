@@ -1,8 +1,9 @@
 // Texts, runs and refusals, as a session shows them.
 use crate::form::{FormFault, read_cell};
-use crate::{Kernel, answer_law};
+use crate::state::{Kept, State};
+use crate::{End, Kernel, answer_law};
 use flow_base::{NoMemory, PyText};
-use flow_wire::{Ask, EndText, Reply, write_reply};
+use flow_wire::{Ask, write_reply};
 use std::alloc::Global;
 use std::test::Fail;
 
@@ -128,45 +129,33 @@ fn answers_asks(rt: HostRuntime) -> Result<(), Fail> {
     Ok(())
 }
 
-// The reply to a run of a cell that is given this text.
-fn run_text(alloc: Global, kernel: &mut Kernel, text: &str) -> Result<Reply, NoMemory> {
-    kernel.step(&ask(alloc, "c", Some(text), None)?)?;
-    kernel.step(&ask(alloc, "c", None, None)?)
-}
-
-fn is_ok(reply: &Reply) -> bool {
-    match reply {
-        Reply::Ran {
-            end: EndText::Ok,
-            ..
-        } => true,
-        _ => false,
-    }
-}
-
-fn is_range(reply: &Reply) -> bool {
-    match reply {
-        Reply::Ran {
-            end: EndText::Range,
-            ..
-        } => true,
-        _ => false,
-    }
+// How the run of a cell ends that is given this text.
+fn end_of(alloc: Global, state: &mut State, text: &str) -> Result<End, NoMemory> {
+    let cell = PyText::from_str(alloc, "c")?;
+    let text = PyText::from_str(alloc, text)?;
+    let Ok(assigns) = read_cell(alloc, &text) else {
+        return Err(NoMemory);
+    };
+    state.edit(&cell, &text, assigns.copy()?)?;
+    state.run(&cell, Kept { text, assigns }, 1_000_000)
 }
 
 // 10^29 * 2^30 is below 2^127, and 10^29 * 2^31 is not.
 #[test]
 fn ends_at_the_largest_value(rt: HostRuntime) -> Result<(), Fail> {
     let alloc = rt.alloc();
-    let mut kernel = Kernel::new(alloc, 1_000_000)?;
-    let first = run_text(alloc, &mut kernel, "x = 100000000000000000000000000000")?;
-    assert!(rt; is_ok(&first));
+    let mut state = State::new(alloc);
+    let first = end_of(alloc, &mut state, "x = 100000000000000000000000000000")?;
+    assert_eq!(rt; first, End::Done);
     for _ in 0..30 {
-        assert!(rt; is_ok(&run_text(alloc, &mut kernel, "x = x + x")?));
+        assert_eq!(rt; end_of(alloc, &mut state, "x = x + x")?, End::Done);
     }
-    let over = run_text(alloc, &mut kernel, "y = 1\nx = x + x")?;
-    assert!(rt; is_range(&over));
-    let after = run_text(alloc, &mut kernel, "z = x + y")?;
-    assert!(rt; is_ok(&after));
+    for (text, end) in [
+        ("y = 1\nx = x + x", End::Range),
+        ("z = x + y", End::Done),
+        ("z = x + x", End::Range),
+    ] {
+        assert_eq!(rt; end_of(alloc, &mut state, text)?, end);
+    }
     Ok(())
 }
