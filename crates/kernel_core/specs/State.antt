@@ -29,7 +29,7 @@ abbrev pub edited : State → List ℕ → List ℕ → Result (List Assign) ℕ
 edited s cell text (Err line) = s
 edited s cell text (Ok assigns) = record s {
   cells = map.insert s.cells cell (record { text = text; assigns = assigns });
-  names = with_names s.names (names_in assigns)
+  names = with_names s.names (names_in assigns);
 }
 
 -- ---- a run
@@ -38,7 +38,7 @@ abbrev pub ran : State → List ℕ → ℕ → Option Kept → State
 ran s cell steps None = s
 ran s cell steps (Some kept) = let outcome = run_from s.names s.values kept.assigns in record s {
   values = outcome.values;
-  runs = s.runs ++ (record { cell = cell; text = kept.text; steps = steps; end = outcome.end }) ∷ []
+  runs = s.runs ++ (record { cell = cell; text = kept.text; steps = steps; end = outcome.end }) ∷ [];
 }
 
 -- ---- all that was accepted

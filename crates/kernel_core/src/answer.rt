@@ -33,10 +33,7 @@ pub fn answer(
 {
     match a {
         Ask::Edit { cell, text } => edit(alloc, log, state, cell, text),
-        Ask::Run {
-            cell,
-            steps: named,
-        } => run(alloc, steps, log, state, cell, *named),
+        Ask::Run { cell, steps: named } => run(alloc, steps, log, state, cell, *named),
     }
 }
 
@@ -55,11 +52,18 @@ fn edit(
 {
     match read_cell(alloc, text) {
         Ok(assigns) => accept_edit(log, state, cell, text, assigns),
-        Err(FormFault::At(line)) => Ok(Reply::Syntax {
-            kind: SyntaxKind::Syntax,
-            line,
-        }),
+        Err(FormFault::At(line)) => Ok(refusal(line)),
         Err(FormFault::NoMemory) => Err(NoMemory),
+    }
+}
+
+// A line that is not of the form, or that is one too many.
+fn refusal(line: u64) -> Reply
+    ensures { result ≡ Reply.Syntax SyntaxKind.Syntax line }
+{
+    Reply::Syntax {
+        kind: SyntaxKind::Syntax,
+        line,
     }
 }
 

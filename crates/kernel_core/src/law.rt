@@ -9,5 +9,4 @@ ghost use Rattle.kernel_core.specs.Answer.{answer_of};
 pub fn answer_law()
     ensures { (k : Held) (a : Ask)
         → is_refusal (answer_of k a).reply ≡ true → (answer_of k a).kernel ≡ k }
-{
-}
+{}

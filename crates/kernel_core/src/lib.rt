@@ -10,6 +10,8 @@ mod run;
 mod sequence;
 mod state;
 mod table;
+#[cfg(test)]
+mod tests;
 mod values;
 
 pub use accepted::Accepted;

@@ -7,7 +7,7 @@ use crate::values::Values;
 use flow_base::{Names, NoMemory, PyText};
 
 /// The largest value: the last of a signed number of 128 bits.
-pub const INT_MAX: u128 = 170_141_183_460_469_231_731_687_303_715_884_105_727;
+pub const INT_MAX: u128 = i128::MAX as u128;
 
 /// How a run ends: after its last line, at a name without a value, or at a sum over the largest value.
 #[derive(Clone, Copy, Debug, PartialEq, Eq)]
