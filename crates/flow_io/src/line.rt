@@ -2,9 +2,12 @@
 ghost use Rattle.std.specs.Prelude.{◌≡◌, ◌≤◌, ◌+◌, ◌++◌, ◌∷◌, ◌↔◌, List, ℕ, [], true, false, length, Ok, IfOk, IfErr, IsErrOf, OnErr, OnOk, MatchOption, IsTrue};
 ghost use Rattle.std.specs.Io.KnownBytes.{IsAtEnd, prepend_known};
 ghost use Rattle.flow_io.specs.Causes.{Rose};
+ghost use Rattle.flow_io.specs.Reader.{HasLine};
 ghost use Rattle.flow_io.specs.declared.line.LineFault.TheVariants.{NoMemory as OutOfMemory};
 
-use crate::{Failed, INPUT_LIMIT, LINE_LIMIT, Source};
+use crate::gathered::Gathered;
+use crate::intake::Intake;
+use crate::{Failed, INPUT_LIMIT, Source};
 use flow_base::{Bytes, NoMemory};
 use std::alloc::Global;
 use std::marker::Model;
@@ -43,25 +46,26 @@ impl From<NoMemory> for LineFault {
     }
 }
 
-/// Reads a source line by line. Contracts see the bytes that it took and has not answered, how many it took in all,
+/// Reads a source line by line, in pieces of at most 4,096 bytes, and never more than one byte over `INPUT_LIMIT`. It
+/// reads only where it holds no whole line. Contracts see the bytes that it took and has not answered, how many it took in all,
 /// whether the source answered its end, and whether it may be called again.
 #[derive(Drop)]
 pub struct LineReader {
     alloc: Global,
-    taken: u64,
+    intake: Intake,
     ended: bool,
     is_open: bool,
 }
 
 impl Model for LineReader {
-    ghost use Rattle.std.specs.Prelude.{◌≤◌, ◌+◌, []};
+    ghost use Rattle.std.specs.Prelude.{◌≤◌, ◌+◌};
     ghost use Rattle.flow_io.specs.Reader.{Reader};
 
     ghost Value = { Reader };
 
-    ghost view = { λ r. record { pending = []; taken = r.taken; ended = r.ended; is_open = r.is_open } };
+    ghost view = { λ r. record { pending = r.intake.bytes; taken = r.intake.taken; ended = r.ended; is_open = r.is_open } };
 
-    ghost invariant = { λ r. r.taken ≤ 67_108_864 + 1 };
+    ghost invariant = { λ r. r.intake.taken ≤ 67_108_864 + 1 };
 }
 
 impl LineReader {
@@ -73,7 +77,7 @@ impl LineReader {
     {
         Ok(LineReader {
             alloc,
-            taken: 0,
+            intake: Intake::new(alloc)?,
             ended: false,
             is_open: true,
         })
@@ -86,6 +90,15 @@ impl LineReader {
         self.is_open
     }
 
+    /// How many bytes it holds that the source gave and no line has taken. While a line is read, it keeps besides at
+    /// most a line's limit of bytes, and of a line that is too long nothing.
+    pub fn held(&self) -> usize
+        ensures value { result ≡ length self.now.pending }
+        ensures bound { result ≤ 1_052_672 }
+    {
+        self.intake.as_slice().len()
+    }
+
     /// The next line. It is handed the same source at every call. `End` and each fault close the reader; a fault leaves
     /// the source where the reads of this call brought it.
     pub fn next_line<S: Source>(&mut self, source: &mut S) -> Result<Line, LineFault>
@@ -96,16 +109,16 @@ impl LineReader {
         ensures limit { self.new.taken ≤ INPUT_LIMIT + 1 }
         ensures failed { IsErrOf result LineFault.Read → Rose (S.faults source.old) (S.faults source.new) }
         ensures later { S.faults source.old ≤ S.faults source.new }
+
+        // Where a whole line is held, nothing is read.
+        ensures unread { HasLine self.old.pending → source.new ≡ source.old }
     {
         if self.ended {
             self.is_open = false;
             return Ok(Line::End);
         }
-        let mut line = Gathered {
-            kept: Vec::new(self.alloc),
-            too_long: false,
-        };
-        match gather(&mut self.taken, source, &mut line) {
+        let mut line = Gathered::new(self.alloc);
+        match gather(&mut self.intake, source, &mut line) {
             Ok(true) => Ok(line.into_line()),
             Ok(false) => {
                 self.ended = true;
@@ -123,92 +136,33 @@ impl LineReader {
     }
 }
 
-// A line that is being read. Of one that is too long nothing is kept.
-#[derive(Drop)]
-struct Gathered {
-    kept: Vec<u8>,
-    too_long: bool,
-}
-
-impl Gathered {
-    ghost use Rattle.flow_io.specs.Gathered.{Holds};
-    ghost use Rattle.flow_io.specs.Reading.{IsLineOf};
-
-    fn add(&mut self, byte: u8) -> Result<(), NoMemory>
-        ensures { (line : List ℕ) → Holds self.old line → OnOk result (Holds self.new (line ++ byte ∷ [])) }
-    {
-        if self.too_long {
-            return Ok(());
-        }
-        if self.kept.len() == LINE_LIMIT {
-            self.kept.clear();
-            self.too_long = true;
-            return Ok(());
-        }
-        self.kept.push(byte)?;
-        Ok(())
-    }
-
-    fn is_empty(&self) -> bool
-        ensures { (line : List ℕ) → Holds self.now line → IsTrue result ↔ (line ≡ []) }
-    {
-        self.kept.is_empty() && !self.too_long
-    }
-
-    fn into_line(self) -> Line
-        ensures { (line : List ℕ) → Holds self line → IsLineOf line result }
-    {
-        if self.too_long {
-            Line::TooLong
-        } else {
-            Line::Text(Bytes::from_vec(self.kept))
-        }
-    }
-}
-
 ghost use Rattle.flow_io.specs.Gathered.{Gathers, Holds};
 
-// Takes bytes up to a line feed (`true`) or the end (`false`).
+// Takes bytes up to a line feed (`true`) or the end (`false`). Reads only where no line feed is held.
 fn gather<S: Source>(
-    taken: &mut u64,
+    intake: &mut Intake,
     source: &mut S,
     line: &mut Gathered,
 ) -> Result<bool, LineFault>
     requires empty { Holds line.old [] }
-    requires limit { taken.old ≤ INPUT_LIMIT + 1 }
-    ensures gathers { (bytes : List ℕ) × Gathers bytes (S.left source.old) (S.left source.new) taken.old taken.new result line.new }
-    ensures limit { taken.new ≤ INPUT_LIMIT + 1 }
+    requires limit { intake.old.taken ≤ INPUT_LIMIT + 1 }
+    ensures gathers { (given : List ℕ) × Gathers given (S.left source.old) (S.left source.new) intake.old intake.new result line.new }
+    ensures limit { intake.new.taken ≤ INPUT_LIMIT + 1 }
     ensures failed { IsErrOf result LineFault.Read → Rose (S.faults source.old) (S.faults source.new) }
     ensures later { S.faults source.old ≤ S.faults source.new }
+    ensures unread { HasLine intake.old.bytes → source.new ≡ source.old }
 {
     loop {
-        if *taken > INPUT_LIMIT {
-            return Err(LineFault::InputLimit);
-        }
-        let Some(byte) = read_byte(source)? else {
-            return Ok(false);
-        };
-        *taken += 1;
-        if byte == b'\n' {
+        if intake.move_line(line)? {
             return Ok(true);
         }
-        line.add(byte)?;
-    }
-}
-
-// The next byte, or the end.
-fn read_byte<S: Source>(source: &mut S) -> Result<Option<u8>, LineFault>
-    ensures byte { IfOk result (λ o. MatchOption o
-        ((S.left source.new ≡ S.left source.old) × IsAtEnd (S.left source.new))
-        (λ b. S.left source.old ≡ prepend_known (b ∷ []) (S.left source.new))) }
-    ensures failed { OnErr result ((S.left source.new ≡ S.left source.old) × Rose (S.faults source.old) (S.faults source.new)) }
-    ensures only_read { IfErr result (λ e. e ≡ LineFault.Read) }
-    ensures later { S.faults source.old ≤ S.faults source.new }
-{
-    let mut buf = [0u8; 1];
-    match source.read(&mut buf) {
-        Ok(0) => Ok(None),
-        Ok(_) => Ok(Some(buf[0])),
-        Err(Failed) => Err(LineFault::Read),
+        if intake.taken() > INPUT_LIMIT {
+            return Err(LineFault::InputLimit);
+        }
+        match intake.refill(source) {
+            Ok(true) => {}
+            Ok(false) => return Ok(false),
+            Err(Failed) => return Err(LineFault::Read),
+        }
     }
 }

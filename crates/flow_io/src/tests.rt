@@ -22,7 +22,7 @@ fn word(alloc: Global, answer: Result<Line, LineFault>) -> Result<String, Fail> 
 }
 
 // The answers of a reader until it is closed.
-fn answers(alloc: Global, source: &mut MemSource) -> Result<String, Fail> {
+fn answers<S: Source>(alloc: Global, source: &mut S) -> Result<String, Fail> {
     let mut reader = LineReader::new(alloc)?;
     let mut said = String::new(alloc);
     for _ in 0..9 {
@@ -43,7 +43,7 @@ fn input_is_cut_at_line_feeds(rt: HostRuntime) -> Result<(), Fail> {
         ("\n", 0, "[]end"),
         ("a\r\nb\n", 0, "[a\r][b]end"),
         ("a\n\nb", 0, "[a][][b]end"),
-        ("a\nb", 4, "[a]reading failed"),
+        ("a\nb", 2, "[a]reading failed"),
         ("a\nb", 1, "reading failed"),
     ] {
         let mut source = MemSource::new(alloc, input.as_bytes(), &[fail])?;
@@ -65,6 +65,27 @@ fn long_lines_are_passed_over(rt: HostRuntime) -> Result<(), Fail> {
         let mut source = MemSource::new(alloc, &input, &[])?;
         assert_eq!(rt; answers(alloc, &mut source)?.as_str(), want, "at {len}");
     }
+    Ok(())
+}
+
+#[test]
+fn input_past_its_limit(rt: HostRuntime) -> Result<(), Fail> {
+    let alloc = rt.alloc();
+    let input = vec![in alloc; b'x'; 67_108_865]?;
+    let mut source = SureSource::new(alloc, &input)?;
+    let want = "the input has over 67,108,864 bytes";
+    assert_eq!(rt; answers(alloc, &mut source)?.as_str(), want);
+    Ok(())
+}
+
+#[test]
+fn bytes_behind_a_line_are_held(rt: HostRuntime) -> Result<(), Fail> {
+    let alloc = rt.alloc();
+    let mut source = SureSource::new(alloc, b"a\nbc\n")?;
+    let mut reader = LineReader::new(alloc)?;
+    let first = reader.next_line(&mut source);
+    assert_eq!(rt; word(alloc, first)?.as_str(), "[a]");
+    assert_eq!(rt; reader.held(), 3);
     Ok(())
 }
 
@@ -117,6 +138,7 @@ fn readers_and_writers_of_std(rt: HostRuntime) -> Result<(), Fail> {
     assert_eq!(rt; buf, *b"abc-");
     let mut sink = StdSink::new(Vec::new(alloc));
     assert_eq!(rt; put(&mut sink, &buf), Ok(()));
+    assert_eq!(rt; put(&mut SureSink::new(), &buf), Ok(()));
     let mut full = StdSink::new(Cursor::new([0u8; 2]));
     assert_eq!(rt; put(&mut full, &buf), Err(Failed));
     Ok(())
