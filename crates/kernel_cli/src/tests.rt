@@ -73,11 +73,12 @@ fn answers(
 #[test]
 fn logs_get_their_replies(rt: HostRuntime) -> Result<(), Fail> {
     let alloc = rt.alloc();
-    let rows: [(&[&str], (u64, u64), Status, &[&str]); 9] = [
+    let rows: [(&[&str], (u64, u64), Status, &[&str]); 10] = [
         (&[], (0, 0), Status::Done, &[]),
         (&[EDIT, RUN], (0, 0), Status::Done, &[EDITED, RAN_1]),
         (&[EDIT, BARE_RUN], (0, 0), Status::Done, &[EDITED, RAN_1]),
-        (&[EDIT, BARE_RUN], (45, 0), Status::ReadFault, &[EDITED]),
+        (&[EDIT, "{"], (2, 0), Status::ReadFault, &[EDITED]),
+        (&[EDIT, RUN], (1, 0), Status::ReadFault, &[]),
         (&[EDIT, RUN], (0, 1), Status::WriteFault, &[]),
         (&[EDIT, RUN], (0, 2), Status::WriteFault, &[EDITED]),
         (
