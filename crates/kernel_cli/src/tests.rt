@@ -17,13 +17,13 @@ const BARE_RUN: &str = "{\"event\":\"run\",\"cell\":\"a\"}";
 const EDITED: &str = "{\"cell\":\"a\",\"edited\":true}\n";
 
 const RAN_1: &str =
-    "{\"cell\":\"a\",\"end\":\"ok\",\"mark\":{\"unknown\":{\"kind\":\"form\",\"node\":[1,1]}},\"out\":\"\",\"run\":1,\"stale\":[]}\n";
+    "{\"cell\":\"a\",\"end\":\"ok\",\"mark\":\"clean\",\"out\":\"\",\"run\":1,\"stale\":[]}\n";
 
 const RAN_2: &str =
-    "{\"cell\":\"a\",\"end\":\"ok\",\"mark\":{\"unknown\":{\"kind\":\"form\",\"node\":[2,1]}},\"out\":\"\",\"run\":2,\"stale\":[]}\n";
+    "{\"cell\":\"a\",\"end\":\"ok\",\"mark\":\"clean\",\"out\":\"\",\"run\":2,\"stale\":[]}\n";
 
 const NAME_ERROR_1: &str =
-    "{\"cell\":\"a\",\"end\":{\"raised\":\"NameError\"},\"mark\":{\"unknown\":{\"kind\":\"form\",\"node\":[1,1]}},\"out\":\"\",\"run\":1,\"stale\":[]}\n";
+    "{\"cell\":\"a\",\"end\":{\"raised\":\"NameError\"},\"mark\":\"clean\",\"out\":\"\",\"run\":1,\"stale\":[]}\n";
 
 const LONG: &str = "{\"kind\":\"long\",\"refused\":\"event\"}\n";
 
@@ -36,6 +36,10 @@ const SHAPE: &str = "{\"kind\":\"shape\",\"refused\":\"event\"}\n";
 const NO_CELL: &str = "{\"refused\":\"no cell\"}\n";
 
 const SYNTAX_1: &str = "{\"kind\":\"syntax\",\"line\":1,\"refused\":\"syntax\"}\n";
+
+const CHAIN_BEGIN: &str = "{\"cell\":\"c0\",\"event\":\"edit\",\"text\":\"v0 = 1\"}\n{\"cell\":\"c0\",\"event\":\"run\"}\n";
+const CHAIN_END: &str = "{\"cell\":\"c0\",\"event\":\"run\"}\n{\"cell\":\"p\",\"event\":\"edit\",\"text\":\"w = v999\"}\n{\"cell\":\"p\",\"event\":\"run\"}\n";
+const CHAIN_REPLY: &str = "{\"cell\":\"p\",\"end\":\"ok\",\"mark\":{\"stale\":{\"computed\":1000,\"dep\":\"v0\",\"overwritten\":1001,\"symbol\":\"v999\"}},\"out\":\"\",\"run\":1002,\"stale\":[\"v999\"]}\n";
 
 fn joined(alloc: Global, pieces: &[&str]) -> Result<Vec<u8>, NoMemory> {
     let mut bytes = Vec::new(alloc);
@@ -118,6 +122,26 @@ fn logs_get_their_replies(rt: HostRuntime) -> Result<(), Fail> {
         let log = joined(alloc, log)?;
         answers(&rt, &log, faults, status, replies)?;
     }
+    Ok(())
+}
+
+// A chain of 1,000 cells, each of which uses the name of the one before; then the first is run again, and a cell uses the
+// last name.
+#[test]
+fn long_chains_are_followed(rt: HostRuntime) -> Result<(), Fail> {
+    let alloc = rt.alloc();
+    let mut log = String::from_str(alloc, CHAIN_BEGIN)?;
+    for i in 1..1_000u64 {
+        let before = i - 1;
+        let cell = format!(in alloc; "{{\"cell\":\"c{i}\",\"event\":\"edit\",\"text\":\"v{i} = v{before}\"}}\n{{\"cell\":\"c{i}\",\"event\":\"run\"}}\n")?;
+        log.push_str(&cell)?;
+    }
+    log.push_str(CHAIN_END)?;
+    let words = one_word(alloc, "run")?;
+    let mut source = MemSource::new(alloc, log.as_bytes(), &[])?;
+    let mut sink = MemSink::new(alloc, 200_000, &[])?;
+    assert_eq!(rt; ipyflow(alloc, &words, &mut source, &mut sink), Status::Done);
+    assert!(rt; sink.written().ends_with(CHAIN_REPLY.as_bytes()));
     Ok(())
 }
 

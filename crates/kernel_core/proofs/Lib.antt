@@ -1,2 +1,4 @@
 pub mod FormLaws
 pub mod Keyed
+pub mod LineageLaws
+pub mod ReasonLaws

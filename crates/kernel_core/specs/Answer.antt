@@ -6,7 +6,6 @@ use Rattle.flow_wire.specs.declared.ask.Ask.{Ask}
 use Rattle.flow_wire.specs.declared.ask.Ask.TheVariants as ask
 use Rattle.flow_wire.specs.declared.reply.EndText.{EndText}
 use Rattle.flow_wire.specs.declared.reply.EndText.TheVariants as told
-use Rattle.flow_wire.specs.declared.reply.MarkText.TheVariants.{Form}
 use Rattle.flow_wire.specs.declared.reply.Reply.{Reply}
 use Rattle.flow_wire.specs.declared.reply.Reply.TheVariants.{Edited, Ran, NoCell, BadSteps, Syntax}
 use Rattle.kernel_core.specs.declared.accepted.Accepted.TheVariants as accepted
@@ -18,6 +17,7 @@ use Rattle.kernel_core.specs.declared.state.Kept.{Kept}
 use Rattle.kernel_core.specs.declared.state.State.{State}
 use Rattle.kernel_core.specs.Form.{cell_of}
 use Rattle.kernel_core.specs.Run.{run_from}
+use Rattle.kernel_core.specs.Lineage.{events_from, mark_of, stale_paths}
 use Rattle.kernel_core.specs.State.{state_of}
 use Rattle.kernel_core.specs.Kernel.{Held, accepts}
 
@@ -38,11 +38,11 @@ end_text end.Done = told.Ok
 end_text end.NameError = told.Raised (codes "NameError")
 end_text end.Range = told.Range
 
--- the reply to a run in this state; what its names rest on is not looked at yet, so the mark is unknown, at the first
--- node of the run's text
+-- the reply to a run in this state: how it ends, and by the history before it, its mark and the stale names that it uses
 abbrev pub run_reply : State → List ℕ → Kept → Reply
-run_reply s cell kept = let run = length s.runs + 1 in
-    Ran cell (end_text (run_from s.names s.values kept.assigns).end) (Form run) [] run []
+run_reply s cell kept =
+    Ran cell (end_text (run_from s.names s.values kept.assigns).end) (mark_of s.names s.versions kept.assigns) [] (length s.runs + 1)
+    (stale_paths s.names s.versions (events_from s.names s.values kept.assigns))
 
 -- the steps that a line names, or those of a run that names none
 abbrev pub allowance : ℕ → Option ℕ → ℕ

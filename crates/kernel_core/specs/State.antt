@@ -11,9 +11,11 @@ use Rattle.kernel_core.specs.declared.state.Ran.{Ran}
 use Rattle.kernel_core.specs.declared.state.State.{State}
 use Rattle.kernel_core.specs.Form.{cell_of, name_of}
 use Rattle.kernel_core.specs.Run.{run_from}
+use Rattle.kernel_core.specs.Lineage.{events_from}
+use Rattle.trace_events.specs.Trace.{summary_of}
 
 abbrev pub empty_state : State
-empty_state = record { cells = map.empty; names = []; values = map.empty; runs = [] }
+empty_state = record { cells = map.empty; names = []; values = map.empty; runs = []; versions = [] }
 
 -- ---- an edit
 
@@ -39,6 +41,7 @@ ran s cell steps None = s
 ran s cell steps (Some kept) = let outcome = run_from s.names s.values kept.assigns in record s {
   values = outcome.values;
   runs = s.runs ++ (record { cell = cell; text = kept.text; steps = steps; end = outcome.end }) ∷ [];
+  versions = s.versions ++ summary_of (events_from s.names s.values kept.assigns) ∷ [];
 }
 
 -- ---- all that was accepted

@@ -6,6 +6,7 @@ use crate::accepted::Accepted;
 use crate::answer::answer;
 use crate::sequence::Sequence;
 use crate::state::State;
+use dependence_graph::Graph;
 use flow_base::NoMemory;
 use flow_wire::{Ask, Reply};
 use std::alloc::Global;
@@ -22,6 +23,7 @@ pub struct Kernel {
     steps: u32,
     log: Sequence<Accepted>,
     state: State,
+    graph: Graph,
     failed: bool,
 }
 
@@ -32,10 +34,11 @@ impl Model for Kernel {
     ghost Value = { Held };
 
     ghost use Rattle.kernel_core.specs.State.{state_of};
+    ghost use Rattle.dependence_graph.specs.Marks.{IsExact};
 
     ghost view = { λ k. record { log = k.log; steps = k.steps; failed = k.failed } };
 
-    ghost invariant = { λ k. k.failed ≡ false → k.state ≡ state_of k.log };
+    ghost invariant = { λ k. k.failed ≡ false → (k.state ≡ state_of k.log) × IsExact k.state.versions k.graph.stale };
 }
 
 impl Kernel {
@@ -51,6 +54,7 @@ impl Kernel {
             steps,
             log: Sequence::new(alloc),
             state: State::new(alloc),
+            graph: Graph::new(alloc),
             failed: false,
         })
     }
@@ -73,7 +77,14 @@ impl Kernel {
         if self.failed {
             return Err(NoMemory);
         }
-        let answered = answer(self.alloc, self.steps, &mut self.log, &mut self.state, a);
+        let answered = answer(
+            self.alloc,
+            self.steps,
+            &mut self.log,
+            &mut self.state,
+            &mut self.graph,
+            a,
+        );
         self.failed = answered.is_err();
         answered
     }

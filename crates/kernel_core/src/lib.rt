@@ -6,6 +6,7 @@ mod answer;
 mod form;
 mod kernel;
 mod law;
+mod lineage;
 mod run;
 mod sequence;
 mod state;

@@ -1,10 +1,14 @@
-// What a run of a cell computes.
-ghost use Rattle.std.specs.Prelude.{◌≡◌, IfOk, OnOk};
+// What a run of a cell computes, and what it does.
+ghost use Rattle.std.specs.Prelude.{◌≡◌, ◌∷◌, [], ◌++◌, IfOk, OnOk};
+ghost use Rattle.flow_base.specs.Names.{symbol_of};
+ghost use Rattle.flow_base.specs.declared.event.Event.{Event};
+ghost use Rattle.kernel_core.specs.Lineage.{atom_events, end_events, event_at, events_from, sum_events};
+ghost use Rattle.kernel_core.specs.Lineage as lineage;
 ghost use Rattle.kernel_core.specs.Run as spec;
 
 use crate::form::{Assign, Atom};
 use crate::values::Values;
-use flow_base::{Names, NoMemory, PyText};
+use flow_base::{Event, How, Loc, Names, NoMemory, ObjRef, PyText, Sym};
 
 /// The largest value: the last of a signed number of 128 bits.
 pub const INT_MAX: u128 = i128::MAX as u128;
@@ -17,14 +21,28 @@ pub enum End {
     Range,
 }
 
-/// Runs the lines of a cell in order, up to the first that ends the run. What the lines before it wrote stays.
-pub fn run(names: &Names, values: &mut Values, assigns: &[Assign]) -> Result<End, NoMemory>
-    ensures { IfOk result (λ end. spec.run_from names.now values.old assigns.now ≡ record { values = values.new; end = end }) }
+/// Runs the lines of a cell in order, up to the first that ends the run. What the lines before it wrote stays. What the
+/// run does is put at the end of the events.
+pub fn run(
+    names: &Names,
+    values: &mut Values,
+    assigns: &[Assign],
+    events: &mut Vec<Event>,
+) -> Result<End, NoMemory>
+    ensures outcome { IfOk result (λ end. spec.run_from names.now values.old assigns.now ≡ record { values = values.new; end = end }) }
+    ensures events { OnOk result (events.new.items ≡ events.old.items ++ events_from names.now values.old assigns.now) }
 {
     for assign in assigns {
-        match sum(names, values, assign.sum.as_slice()) {
-            Ok(n) => store(names, values, &assign.name, n)?,
-            Err(end) => return Ok(end),
+        events.push(Event::Open)?;
+        match sum(names, values, assign.sum.as_slice(), events)? {
+            Ok(n) => {
+                store(names, values, &assign.name, n)?;
+                add_write(names, &assign.name, events)?;
+            }
+            Err(end) => {
+                add_end(end, events)?;
+                return Ok(end);
+            }
         }
     }
     Ok(End::Done)
@@ -40,14 +58,64 @@ fn store(names: &Names, values: &mut Values, name: &PyText, n: u128) -> Result<(
     }
 }
 
-fn sum(names: &Names, values: &Values, atoms: &[Atom]) -> Result<u128, End>
-    ensures { result ≡ spec.sum_from names.now values.now 0 atoms.now }
+fn sum(
+    names: &Names,
+    values: &Values,
+    atoms: &[Atom],
+    events: &mut Vec<Event>,
+) -> Result<Result<u128, End>, NoMemory>
+    ensures sum { IfOk result (λ sum. sum ≡ spec.sum_from names.now values.now 0 atoms.now) }
+    ensures events { OnOk result (events.new.items ≡ events.old.items ++ sum_events names.now values.now 0 atoms.now) }
 {
     let mut total = 0;
     for atom in atoms {
-        total = plus(total, worth(names, values, atom))?;
+        add_use(names, atom, events)?;
+        match plus(total, worth(names, values, atom)) {
+            Ok(more) => total = more,
+            Err(end) => return Ok(Err(end)),
+        }
     }
-    Ok(total)
+    Ok(Ok(total))
+}
+
+/// The location of a global name.
+pub fn global(s: Sym) -> Loc
+    ensures { result ≡ lineage.global s }
+{
+    Loc::Name(ObjRef(0), s)
+}
+
+// A name is used, also one that has no value.
+fn add_use(names: &Names, atom: &Atom, events: &mut Vec<Event>) -> Result<(), NoMemory>
+    ensures { OnOk result (events.new.items ≡ events.old.items ++ atom_events names.now atom.now) }
+{
+    if let Atom::Name(name) = atom {
+        if let Some(s) = names.known(name) {
+            events.push(Event::Use(global(s)))?;
+        }
+    }
+    Ok(())
+}
+
+// A line writes its name and ends.
+fn add_write(names: &Names, name: &PyText, events: &mut Vec<Event>) -> Result<(), NoMemory>
+    ensures { OnOk result (events.new.items ≡ events.old.items ++ event_at Event.Write (symbol_of names.now name.now) ++ Event.Close How.Normal ∷ []) }
+{
+    if let Some(s) = names.known(name) {
+        events.push(Event::Write(global(s)))?;
+    }
+    events.push(Event::Close(How::Normal))?;
+    Ok(())
+}
+
+// A name without a value is raised, and a sum over the largest value is not.
+fn add_end(end: End, events: &mut Vec<Event>) -> Result<(), NoMemory>
+    ensures { OnOk result (events.new.items ≡ events.old.items ++ end_events end) }
+{
+    if end == End::NameError {
+        events.push(Event::Close(How::Raise))?;
+    }
+    Ok(())
 }
 
 fn worth(names: &Names, values: &Values, atom: &Atom) -> Option<u128>

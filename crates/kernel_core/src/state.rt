@@ -1,5 +1,5 @@
 // What a session has come to.
-ghost use Rattle.std.specs.Prelude.{◌≡◌, IfOk, OnOk, Ok, Some};
+ghost use Rattle.std.specs.Prelude.{◌≡◌, [], ◌∷◌, ◌++◌, IfOk, OnOk, Ok};
 ghost use Rattle.std.specs.List.{filter_map};
 ghost use Rattle.kernel_core.specs.Form.{name_of};
 
@@ -8,8 +8,10 @@ use crate::run::{End, run};
 use crate::sequence::Sequence;
 use crate::table::Table;
 use crate::values::Values;
-use flow_base::{Names, NoMemory, PyText};
+use flow_base::{Names, NoMemory, PyText, RunNo};
 use std::alloc::Global;
+use trace_events::{Summary, summarize};
+use version_store::Versions;
 
 /// The accepted text of a cell, and the lines that it spells.
 #[derive(Drop)]
@@ -39,18 +41,29 @@ pub struct Ran {
     pub end: End,
 }
 
-/// The accepted texts, the names that stood in them, the values of those names, and the runs, first run first.
+/// How the lines of a cell end, and what is kept of what they do.
+#[derive(Drop)]
+pub struct Computed {
+    pub end: End,
+    pub summary: Summary,
+}
+
+/// The accepted texts, the names that stood in them, the values of those names, and the runs and what is kept of what each
+/// did, first run first.
 #[derive(Drop)]
 pub struct State {
     pub cells: Table<Kept>,
     pub names: Names,
     pub values: Values,
     pub runs: Sequence<Ran>,
+    pub versions: Versions,
 }
 
 impl State {
+    ghost use Rattle.kernel_core.specs.Lineage.{events_from};
     ghost use Rattle.kernel_core.specs.Run.{run_from};
-    ghost use Rattle.kernel_core.specs.State.{empty_state, edited, ran};
+    ghost use Rattle.kernel_core.specs.State.{empty_state, edited};
+    ghost use Rattle.trace_events.specs.Trace.{summary_of};
 
     /// Nothing was accepted. Takes no memory.
     pub fn new(alloc: Global) -> State
@@ -61,6 +74,7 @@ impl State {
             names: Names::new(alloc),
             values: Values::new(alloc),
             runs: Sequence::new(alloc),
+            versions: Versions::new(alloc),
         }
     }
 
@@ -76,19 +90,42 @@ impl State {
         self.cells.set(cell, kept)
     }
 
-    /// Runs what is kept for a cell, and answers how the run ended. Where memory is wanting, nothing is said of the state.
-    pub fn run(&mut self, cell: &PyText, kept: Kept, steps: u32) -> Result<End, NoMemory>
-        ensures state { OnOk result (self.new ≡ ran self.old cell.now steps (Some kept)) }
-        ensures end { IfOk result (λ end. end ≡ (run_from self.old.names self.old.values kept.assigns).end) }
+    /// Computes the lines of a cell. Nothing but the values changes.
+    pub fn compute(&mut self, alloc: Global, assigns: &[Assign]) -> Result<Computed, NoMemory>
+        ensures values { OnOk result (self.new ≡ record self.old { values = (run_from self.old.names self.old.values assigns.now).values }) }
+        ensures end { IfOk result (λ computed. computed.end ≡ (run_from self.old.names self.old.values assigns.now).end) }
+        ensures summary { IfOk result (λ computed. computed.summary ≡ summary_of (events_from self.old.names self.old.values assigns.now)) }
     {
-        let end = run(&self.names, &mut self.values, kept.assigns.as_slice())?;
+        let mut events = Vec::new(alloc);
+        let end = run(&self.names, &mut self.values, assigns, &mut events)?;
+        let summary = summarize(alloc, events.as_slice())?;
+        Ok(Computed { end, summary })
+    }
+
+    /// Puts down a run of what is kept for a cell, whose lines were computed. `NoMemory` also stands for a number of runs
+    /// that is full, at 2^64 - 1.
+    pub fn put_run(
+        &mut self,
+        cell: &PyText,
+        kept: Kept,
+        steps: u32,
+        computed: Computed,
+    ) -> Result<(), NoMemory>
+        ensures { OnOk result (self.new ≡ record self.old {
+          runs = self.old.runs ++ (record { cell = cell.now; text = kept.text; steps = steps; end = computed.end }) ∷ [];
+          versions = self.old.versions ++ computed.summary ∷ [];
+        }) }
+    {
+        let Some(number) = (self.versions.len() as u64).checked_add(1) else {
+            return Err(NoMemory);
+        };
+        self.versions.add_run(RunNo(number), computed.summary)?;
         self.runs.push(Ran {
             cell: cell.copy()?,
             text: kept.text,
             steps,
-            end,
-        })?;
-        Ok(end)
+            end: computed.end,
+        })
     }
 }
 

@@ -1,9 +1,9 @@
 // Texts, runs and refusals, as a session shows them.
 use crate::form::{FormFault, read_cell};
-use crate::state::{Kept, State};
+use crate::state::State;
 use crate::{End, Kernel, answer_law};
 use flow_base::{NoMemory, PyText};
-use flow_wire::{Ask, write_reply};
+use flow_wire::{Ask, MarkText, Reply, write_reply};
 use std::alloc::Global;
 use std::test::Fail;
 
@@ -98,14 +98,14 @@ fn answers_asks(rt: HostRuntime) -> Result<(), Fail> {
             "a",
             None,
             None,
-            r#"{"cell":"a","end":{"raised":"NameError"},"mark":{"unknown":{"kind":"form","node":[1,1]}},"out":"","run":1,"stale":[]}"#,
+            r#"{"cell":"a","end":{"raised":"NameError"},"mark":"clean","out":"","run":1,"stale":[]}"#,
         ),
         ("b", Some("z = x"), None, r#"{"cell":"b","edited":true}"#),
         (
             "b",
             None,
             None,
-            r#"{"cell":"b","end":"ok","mark":{"unknown":{"kind":"form","node":[2,1]}},"out":"","run":2,"stale":[]}"#,
+            r#"{"cell":"b","end":"ok","mark":"clean","out":"","run":2,"stale":[]}"#,
         ),
         (
             "b",
@@ -119,7 +119,7 @@ fn answers_asks(rt: HostRuntime) -> Result<(), Fail> {
             "b",
             None,
             Some(10_000_000),
-            r#"{"cell":"b","end":"ok","mark":{"unknown":{"kind":"form","node":[3,1]}},"out":"","run":3,"stale":[]}"#,
+            r#"{"cell":"b","end":"ok","mark":"clean","out":"","run":3,"stale":[]}"#,
         ),
     ] {
         let a = ask(alloc, cell, text, steps)?;
@@ -137,7 +137,8 @@ fn end_of(alloc: Global, state: &mut State, text: &str) -> Result<End, NoMemory>
         return Err(NoMemory);
     };
     state.edit(&cell, &text, assigns.copy()?)?;
-    state.run(&cell, Kept { text, assigns }, 1_000_000)
+    let computed = state.compute(alloc, assigns.as_slice())?;
+    Ok(computed.end)
 }
 
 // 10^29 * 2^30 is below 2^127, and 10^29 * 2^31 is not.
@@ -157,5 +158,99 @@ fn ends_at_the_largest_value(rt: HostRuntime) -> Result<(), Fail> {
     ] {
         assert_eq!(rt; end_of(alloc, &mut state, text)?, end);
     }
+    Ok(())
+}
+
+fn is_clean(reply: &Reply) -> bool {
+    match reply {
+        Reply::Ran {
+            mark: MarkText::Clean,
+            stale,
+            ..
+        } => stale.len() == 0,
+        _ => false,
+    }
+}
+
+// Gives the cell a text, unless it is empty, and runs it.
+fn run_cell(alloc: Global, kernel: &mut Kernel, cell: &str, text: &str) -> Result<Reply, NoMemory> {
+    if text.len() > 0 {
+        kernel.step(&ask(alloc, cell, Some(text), None)?)?;
+    }
+    kernel.step(&ask(alloc, cell, None, None)?)
+}
+
+// How many runs from the first on are answered as they should be, where an empty answer stands for a clean one.
+fn count_right(alloc: Global, runs: &[(&str, &str, &str)]) -> Result<usize, NoMemory> {
+    let mut kernel = Kernel::new(alloc, 1_000_000)?;
+    let mut right = 0;
+    for (cell, text, want) in runs {
+        let reply = run_cell(alloc, &mut kernel, cell, text)?;
+        let line = write_reply(alloc, &reply)?;
+        if line.as_slice() != want.as_bytes() && !(want.len() == 0 && is_clean(&reply)) {
+            return Ok(right);
+        }
+        right += 1;
+    }
+    Ok(right)
+}
+
+#[test]
+fn marks_runs(rt: HostRuntime) -> Result<(), Fail> {
+    let alloc = rt.alloc();
+    let chain = [
+        ("a", "x = 1", ""),
+        ("b", "y = x", ""),
+        ("c", "z = y", ""),
+        ("d", "x = 2", ""),
+        (
+            "p",
+            "w = z",
+            r#"{"cell":"p","end":"ok","mark":{"stale":{"computed":3,"dep":"x","overwritten":4,"symbol":"z"}},"out":"","run":5,"stale":["z"]}"#,
+        ),
+        ("b", "", ""),
+        ("c", "", ""),
+        ("p", "", ""),
+    ];
+    assert_eq!(rt; count_right(alloc, &chain)?, 8);
+    let own = [
+        ("a", "x = 0", ""),
+        ("b", "x = x + 1", ""),
+        ("b", "", ""),
+        ("b", "", ""),
+        ("p", "y = x", ""),
+    ];
+    assert_eq!(rt; count_right(alloc, &own)?, 5);
+    Ok(())
+}
+
+#[test]
+fn marks_by_live_names(rt: HostRuntime) -> Result<(), Fail> {
+    let alloc = rt.alloc();
+    let live = [
+        (
+            "a",
+            "y = q",
+            r#"{"cell":"a","end":{"raised":"NameError"},"mark":"clean","out":"","run":1,"stale":[]}"#,
+        ),
+        ("a", "x = 1", ""),
+        ("b", "y2 = x", ""),
+        ("c", "z = x", ""),
+        ("d", "x = 2", ""),
+        ("p", "z = 1\nw = z", ""),
+        ("c", "", ""),
+        ("d", "", ""),
+        (
+            "p",
+            "w = q\nw = z",
+            r#"{"cell":"p","end":{"raised":"NameError"},"mark":{"stale":{"computed":7,"dep":"x","overwritten":8,"symbol":"z"}},"out":"","run":9,"stale":[]}"#,
+        ),
+        (
+            "p",
+            "w = z + y2 + z",
+            r#"{"cell":"p","end":"ok","mark":{"stale":{"computed":3,"dep":"x","overwritten":5,"symbol":"y2"}},"out":"","run":10,"stale":["z","y2"]}"#,
+        ),
+    ];
+    assert_eq!(rt; count_right(alloc, &live)?, 10);
     Ok(())
 }

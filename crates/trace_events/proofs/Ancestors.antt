@@ -8,11 +8,12 @@ use Rattle.flow_base.specs.declared.loc.Loc.{Loc}
 use Rattle.flow_base.specs.declared.numbers.RunNo.{RunNo}
 use Rattle.trace_events.specs.declared.version.Version.{Version}
 use Rattle.trace_events.specs.declared.version.Version.TheVariants.{Empty, Written as at_write}
-use Rattle.trace_events.specs.Trace.{Seen, before, own, Written, last_write}
+use Rattle.trace_events.specs.Trace.{Seen, Before, Own, Written, last_write}
 use Rattle.trace_events.specs.History.{History, history_of, current, deps, or_earlier, place_of, run_of, uses_at, version_seen, write_at, writes_of, IsOlder}
 use Rattle.trace_events.specs.Staleness.{Ancestor, direct, further, Near, earlier, within}
 use Rattle.trace_events.proofs.Lists.{no_member, Contains-map}
-use Rattle.trace_events.proofs.Reading.{IsSeenBelow, IsAscendingFrom, reading_of-ascending}
+use Rattle.trace_events.specs.Lawful.{IsSeenBelow, IsAscendingFrom}
+use Rattle.trace_events.proofs.Reading.{reading_of-ascending}
 
 -- ---- what a use saw
 
@@ -22,6 +23,10 @@ writes_ascend traces zero = tt
 writes_ascend [] (suc n) = tt
 writes_ascend (t ∷ ts) (suc zero) = reading_of-ascending t
 writes_ascend (t ∷ ts) (suc (suc n)) = writes_ascend ts (suc n)
+
+-- the places of the writes of each run ascend
+abbrev pub IsAscending : History → Type 0
+IsAscending h = (n : ℕ) → IsAscendingFrom 0 (writes_of h n)
 
 -- the same for the first write, whose place is looked up, or not
 uses_below_head : (i : ℕ) (w : Written) (ws : List Written) (s : Seen) (b : Bool) → (w.place == i) ≡ b → AllByRecursion (IsSeenBelow w.place) w.uses
@@ -54,19 +59,18 @@ run_of-current h (suc n) l = or_earlier_bound n (last_write l (writes_of h (suc 
 
 -- what a use of a run saw is older than the write on which it was gathered
 seen_older : (h : History) (run : RunNo) (i : ℕ) (s : Seen) → 0 < run.0 → IsSeenBelow i s → IsOlder (version_seen h run.0 s) (at_write run i)
-seen_older h run i (before l) pos b = inl (let le : run_of (current h (run.0 - 1) l) ≤ run.0 - 1 = run_of-current h (run.0 - 1) l in omega arith)
-seen_older h run i (own place) pos b = inr (refl, b)
+seen_older h run i (Before l) pos b = inl (let le : run_of (current h (run.0 - 1) l) ≤ run.0 - 1 = run_of-current h (run.0 - 1) l in omega arith)
+seen_older h run i (Own place) pos b = inr (refl, b)
 
 -- ---- one step
 
 -- what a version directly rests on is older
-pub dep_older : (traces : List (List Event)) (v u : Version) → Contains (deps (history_of traces) v) u → IsOlder u v
-dep_older traces (Empty l) u c = absurd (no_member u c)
-dep_older traces (at_write run i) u c =
-    let h : History = history_of traces in
+pub dep_older : (h : History) → IsAscending h → (v u : Version) → Contains (deps h v) u → IsOlder u v
+dep_older h ascend (Empty l) u c = absurd (no_member u c)
+dep_older h ascend (at_write run i) u c =
     let used = Contains-map (version_seen h run.0) (uses_at (write_at (writes_of h run.0) i)) u c in
     subst (λ (w : Version). IsOlder w (at_write run i)) used.2
-    (seen_older h run i used.0 (after_zero h run.0 i used.0 used.1) (uses_below 0 i (writes_of h run.0) used.0 (writes_ascend traces run.0) used.1))
+    (seen_older h run i used.0 (after_zero h run.0 i used.0 used.1) (uses_below 0 i (writes_of h run.0) used.0 (ascend run.0) used.1))
 
 -- ---- many steps
 
@@ -88,13 +92,13 @@ pub older_itself : (v : Version) → IsOlder v v → ⊥
 older_itself v a = ⊎_elim (λ (x : run_of v < run_of v). omega arith) (λ (x : (run_of v ≡ run_of v) × (place_of v < place_of v)). omega arith) a
 
 -- an ancestor is older
-pub ancestor_older : (traces : List (List Event)) {v u : Version} → Ancestor (history_of traces) v u → IsOlder u v
-ancestor_older traces (direct {v = v} {u = u} c) = dep_older traces v u c
-ancestor_older traces (further {v = v} {w = w} {u = u} c a) = older_trans u w v (ancestor_older traces a) (dep_older traces v w c)
+pub ancestor_older : (h : History) → IsAscending h → {v u : Version} → Ancestor h v u → IsOlder u v
+ancestor_older h ascend (direct {v = v} {u = u} c) = dep_older h ascend v u c
+ancestor_older h ascend (further {v = v} {w = w} {u = u} c a) = older_trans u w v (ancestor_older h ascend a) (dep_older h ascend v w c)
 
 -- no version is its own ancestor
-pub ancestor_itself : (traces : List (List Event)) (v : Version) → Ancestor (history_of traces) v v → ⊥
-ancestor_itself traces v a = older_itself v (ancestor_older traces a)
+pub ancestor_itself : (h : History) → IsAscending h → (v : Version) → Ancestor h v v → ⊥
+ancestor_itself h ascend v a = older_itself v (ancestor_older h ascend a)
 
 -- a version without dependences has neither ancestors nor near versions
 module _ (h : History) where

@@ -4,6 +4,8 @@ pub mod Ancestors
 pub mod StepLaw
 pub mod Reached
 pub mod StaleTest
+pub mod Writes
 pub mod Places
 pub mod TotalOrder
 pub mod Reasons
+pub mod ExactOrder

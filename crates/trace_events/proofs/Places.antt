@@ -11,23 +11,13 @@ use Rattle.flow_base.specs.declared.event.Event.TheVariants.{Use, Place, Write, 
 use Rattle.flow_base.specs.declared.event.ReadHow.{ReadHow}
 use Rattle.flow_base.specs.declared.event.ReadHow.TheVariants.{Use as ByUse, Place as ByPlace}
 use Rattle.flow_base.specs.declared.loc.Loc.{Loc}
-use Rattle.trace_events.specs.Trace.{IsAt, IsReadBeforeWrite, IsStartRead, Reading, StartRead, Written, all_uses, last_write, or_else, read_event, reading_of, seen_after, seen_from, start, start_read, step, summary_of}
+use Rattle.trace_events.specs.Trace.{IsAt, IsReadBeforeWrite, IsStartRead, Reading, StartRead, Written, all_uses, last_write, read_event, reading_of, seen_after, seen_from, start, start_read, step, summary_of}
 use Rattle.trace_events.proofs.Lists.{no_member, Contains-head}
-use Rattle.trace_events.proofs.Reading.{IsAscendingFrom, place_step, reading_of-ascending}
+use Rattle.trace_events.specs.Lawful.{IsAscendingFrom}
+use Rattle.trace_events.proofs.Writes.{ascending_bound, last_write_push}
+use Rattle.trace_events.proofs.Reading.{place_step, reading_of-ascending}
 
 -- ---- the last write
-
--- a choice before one that may lack
-or_else-cond : {T : Type 0} (b : Bool) (x : T) (o other : Option T) → or_else (cond b (Some x) o) other ≡ cond b (Some x) (or_else o other)
-or_else-cond true x o other = refl
-or_else-cond false x o other = refl
-
--- the last write after one write more
-last_write_push : (l : Loc) (ws : List Written) (w : Written) → last_write l (ws ++ w ∷ []) ≡ cond (loc_eq w.location l) (Some w.place) (last_write l ws)
-last_write_push l [] w = refl
-last_write_push l (x ∷ xs) w =
-    ap (λ o. or_else o (cond (loc_eq x.location l) (Some x.place) None)) (last_write_push l xs w)
-    ∙ or_else-cond (loc_eq w.location l) w.place (last_write l xs) (cond (loc_eq x.location l) (Some x.place) None)
 
 -- what is there does not lack
 no_some : {T : Type 0} (x : T) → Some x ≡ None → ⊥
@@ -279,21 +269,12 @@ kept_write_at es place l k = subst (λ (p : ℕ). IsAt es p (Write l)) k.2 (subs
 
 -- ---- places ascend
 
--- no place is before the first
-first_place : (p : ℕ) (ws : List Written) (k : ℕ) (d : Written) → IsAscendingFrom p ws → k < length ws → p ≤ (get_or ws k d).place
-first_place p [] k d a lt = absurd (omega arith)
-first_place p (w ∷ ws) zero d a lt = a.0
-first_place p (w ∷ ws) (suc k) d a lt =
-    let later : w.place + 1 ≤ (get_or ws k d).place = first_place (w.place + 1) ws k d a.2 (omega arith) in
-    let here : p ≤ w.place = a.0 in
-    omega arith
-
 -- of two writes the earlier one has the lower place
 ascending_pairs : (p : ℕ) (ws : List Written) (i j : ℕ) (d : Written) → IsAscendingFrom p ws → i < j → j < length ws → (get_or ws i d).place < (get_or ws j d).place
 ascending_pairs p [] i j d a lt in_list = absurd (omega arith)
 ascending_pairs p (w ∷ ws) i zero d a lt in_list = absurd (omega arith)
 ascending_pairs p (w ∷ ws) zero (suc j) d a lt in_list =
-    let later : w.place + 1 ≤ (get_or ws j d).place = first_place (w.place + 1) ws j d a.2 (omega arith) in omega arith
+    let later : w.place + 1 ≤ (get_or ws j d).place = ascending_bound (w.place + 1) ws j d a.2 (omega arith) in omega arith
 ascending_pairs p (w ∷ ws) (suc i) (suc j) d a lt in_list = ascending_pairs (w.place + 1) ws i j d a.2 (omega arith) (omega arith)
 
 -- the places of the kept writes ascend

@@ -7,14 +7,13 @@ use Rattle.std.proofs.lemmas.List.Elements.{Contains-append_cases, Contains-appe
 use Rattle.std.proofs.lemmas.List.{get_or_past}
 use Rattle.std.proofs.Math.Nat.{eq-or-lt_of_le}
 use Rattle.std.proofs.lemmas.Bool.{cases_lt}
-use Rattle.flow_base.specs.declared.event.Event.{Event}
 use Rattle.trace_events.specs.declared.version.Version.{Version}
 use Rattle.trace_events.specs.declared.version.Version.TheVariants.{Empty, Written as at_write}
 use Rattle.trace_events.specs.Trace.{Seen, Summary, Written}
-use Rattle.trace_events.specs.History.{History, history_of, deps, made, made_upto, place_of, run_of, uses_at, version_at, version_seen, write_at, writes_of, IsOlder}
+use Rattle.trace_events.specs.History.{History, deps, made, made_upto, place_of, run_of, uses_at, version_at, version_seen, write_at, writes_of, IsOlder}
 use Rattle.trace_events.specs.Staleness.{Ancestor, direct, further, Near, earlier, within}
 use Rattle.trace_events.specs.Decided.{ancestors_of, count_of_writes, near_from, near_of, near_within, reached}
-use Rattle.trace_events.proofs.Ancestors.{dep_older, older_itself, older_trans}
+use Rattle.trace_events.proofs.Ancestors.{IsAscending, dep_older, older_itself, older_trans}
 use Rattle.trace_events.proofs.Lists.{no_member, Contains-cons, Contains-flat_map, Contains-flat_map_of, Contains-head, Contains-map, count, count_all, count_lt}
 
 -- ---- what is listed is reached
@@ -59,19 +58,19 @@ made_head n i w ws s true e rest c = (0, omega arith, ap (version_at n) (eqb-tru
 made_head n i w ws s false e rest c = Contains-cons (version_at n w.place) (version_at n i) (map (λ (x : Written). version_at n x.place) ws) (rest c)
 
 -- a version with uses is among those that its run made
-made_uses : (n i : ℕ) (ws : List Written) (s : Seen) → Contains (uses_at (write_at ws i)) s → Contains (map (λ x. version_at n x.place) ws) (version_at n i)
+pub made_uses : (n i : ℕ) (ws : List Written) (s : Seen) → Contains (uses_at (write_at ws i)) s → Contains (map (λ x. version_at n x.place) ws) (version_at n i)
 made_uses n i [] s c = absurd (no_member s c)
 made_uses n i (w ∷ ws) s c = made_head n i w ws s (w.place == i) refl (made_uses n i ws s) c
 
 -- a version that rests on something is among those that its run made
-made_deps : (h : History) (v u : Version) → Contains (deps h v) u → Contains (made h (run_of v)) v
+pub made_deps : (h : History) (v u : Version) → Contains (deps h v) u → Contains (made h (run_of v)) v
 made_deps h (Empty l) u c = absurd (no_member u c)
 made_deps h (at_write run i) u c =
     let used = Contains-map (version_seen h run.0) (uses_at (write_at (writes_of h run.0) i)) u c in
     made_uses run.0 i (writes_of h run.0) used.0 used.1
 
 -- what a run made is among what all runs up to a later one made
-made_upto_made : (h : History) (r m : ℕ) (u : Version) → r ≤ m → Contains (made h r) u → Contains (made_upto h m) u
+pub made_upto_made : (h : History) (r m : ℕ) (u : Version) → r ≤ m → Contains (made h r) u → Contains (made_upto h m) u
 made_upto_made h zero m u le c = absurd (no_member u c)
 made_upto_made h (suc r) zero u le c = absurd (omega arith)
 made_upto_made h (suc r) (suc m) u le c = ⊎_elim
@@ -85,7 +84,7 @@ writes_past h zero lt = absurd (omega arith)
 writes_past h (suc n) lt = ap (λ (s : Summary). s.writes) (get_or_past h n (record { reads = []; writes = [] }) (omega arith))
 
 -- a run that made something is in the history
-made_within : (h : History) (n : ℕ) (v : Version) → Contains (made h n) v → n ≤ length h
+pub made_within : (h : History) (n : ℕ) (v : Version) → Contains (made h n) v → n ≤ length h
 made_within h n v c = ⊎_elim
     (λ (past : length h < n). absurd (no_member v (subst (λ (ws : List Written). Contains (map (λ w. version_at n w.place) ws) v) (writes_past h n past) c)))
     (λ (le : n ≤ length h). le)
@@ -149,14 +148,10 @@ rank_made h v m =
 
 -- ---- what is reached is listed
 
-module _ (traces : List (List Event)) where
-  -- the history of the traces
-  abbrev now : History
-  now = history_of traces
-
+module _ (now : History) (ascend : IsAscending now) where
   -- a step to a version that rests on something goes to a lower rank
   rank_dep : (v w u : Version) → Contains (deps now v) w → Contains (deps now w) u → rank now w < rank now v
-  rank_dep v w u c d = rank_older now v w (all_made_deps now w u d) (dep_older traces v w c)
+  rank_dep v w u c d = rank_older now v w (all_made_deps now w u d) (dep_older now ascend v w c)
 
   -- what an ancestor's way begins with
   first_step : {v u : Version} → Ancestor now v u → (w : Version) × Contains (deps now v) w

@@ -1,5 +1,5 @@
 -- What reading a trace keeps: the places of its writes ascend, and own uses are of earlier places.
-use Rattle.std.proofs.Common.{◌≡◌, ℕ, zero, suc, ◌+◌, ◌<◌, ◌≤◌, Bool, true, false, cond, List, [], ◌∷◌, ◌++◌, reverse, refl, sym, subst, arith}
+use Rattle.std.proofs.Common.{◌≡◌, ℕ, zero, suc, ◌+◌, ◌<◌, ◌≤◌, Bool, true, false, cond, List, [], ◌∷◌, ◌++◌, length, reverse, refl, sym, subst, ◌∙◌, arith}
 use Rattle.std.specs.Prelude.{Option, Some, None}
 use Rattle.std.specs.List.{AllByRecursion, flat_map, fold}
 use Rattle.std.proofs.lemmas.Grind.{reverse_onto}
@@ -9,7 +9,8 @@ use Rattle.flow_base.specs.declared.event.Event.TheVariants.{Use, Place, Write, 
 use Rattle.flow_base.specs.declared.event.How.{How}
 use Rattle.flow_base.specs.declared.event.How.TheVariants.{Normal, Raise, Break, Continue, Return}
 use Rattle.flow_base.specs.declared.loc.Loc.{Loc}
-use Rattle.trace_events.specs.Trace.{Written, Reading, Seen, before, own, all_uses, close, forget, gather, hand_out, last_write, or_else, seen_from, seen_after, step, start, reading_of}
+use Rattle.trace_events.specs.Lawful.{IsAscendingFrom, IsSeenBelow}
+use Rattle.trace_events.specs.Trace.{Written, Reading, Seen, Before, Own, all_uses, close, forget, gather, hand_out, last_write, or_else, seen_from, seen_after, step, start, reading_of}
 
 -- ---- of each element
 
@@ -36,16 +37,6 @@ module _ {X : Type 0} (P : X → Type 0) where
   each-flat (g ∷ gs) a = each-append g (flat_map (λ g. g) gs) a.0 (each-flat gs a.1)
 
 -- ---- what is kept
-
--- a use of an earlier place
-abbrev pub IsSeenBelow : ℕ → Seen → Type 0
-IsSeenBelow p (before l) = Unit {0}
-IsSeenBelow p (own i) = i < p
-
--- the places ascend, from p on, and each use of the run's own writes is of an earlier place
-abbrev pub IsAscendingFrom : ℕ → List Written → Type 0
-IsAscendingFrom p [] = Unit {0}
-IsAscendingFrom p (w ∷ ws) = (p ≤ w.place) × AllByRecursion (IsSeenBelow w.place) w.uses × IsAscendingFrom (w.place + 1) ws
 
 -- all uses are of earlier places
 abbrev AllSeenBelow : ℕ → List Seen → Type 0
@@ -91,8 +82,8 @@ gathered_close q Return n gs a = gathered_hand_out q gs a
 
 -- one place further, for a use
 below_more_seen : (q : ℕ) (s : Seen) → IsSeenBelow q s → IsSeenBelow (q + 1) s
-below_more_seen q (before l) b = tt
-below_more_seen q (own i) b = omega arith
+below_more_seen q (Before l) b = tt
+below_more_seen q (Own i) b = omega arith
 
 -- one place further, for gathered uses
 below_more_gathered : (q : ℕ) (gs : List (List Seen)) → AllGatheredBelow q gs → AllGatheredBelow (q + 1) gs
@@ -178,3 +169,12 @@ place_step r CallOut = refl
 -- the places of the writes of a trace ascend, and own uses are of earlier places
 pub reading_of-ascending : (es : List Event) → IsAscendingFrom 0 (reading_of es).writes
 reading_of-ascending es = (kept_fold es start (record { ascending = tt; placed = tt; gathered = tt })).ascending
+
+-- so many places as events
+place_fold : (es : List Event) (r : Reading) → (fold step r es).place ≡ r.place + length es
+place_fold [] r = omega arith
+place_fold (e ∷ es) r = place_fold es (step r e) ∙ (let one : (step r e).place ≡ r.place + 1 = place_step r e in omega arith)
+
+-- the place after a trace is its length
+pub reading_of-length : (es : List Event) → (reading_of es).place ≡ length es
+reading_of-length es = place_fold es start ∙ (omega arith)

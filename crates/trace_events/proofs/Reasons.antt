@@ -8,14 +8,13 @@ use Rattle.std.specs.declared.cmp.Ordering.TheVariants.{Less, Equal, Greater}
 use Rattle.std.proofs.lemmas.Bool.{false≢true, true≢false}
 use Rattle.std.proofs.lemmas.Cmp.{alike_right, tied_itself}
 use Rattle.std.proofs.Math.Nat.{eq-or-lt_of_le}
-use Rattle.flow_base.specs.declared.event.Event.{Event}
 use Rattle.trace_events.specs.declared.version.Version.{Version}
-use Rattle.trace_events.specs.History.{History, history_of, run_of, wrote}
+use Rattle.trace_events.specs.History.{History, run_of, wrote}
 use Rattle.trace_events.specs.Staleness.{Ancestor, Near, Stale, overwritten, carried}
 use Rattle.trace_events.specs.Decided.{ancestors_of, count_of_writes, is_stale, near_of, runs_after}
 use Rattle.trace_events.specs.Order.{version_cmp}
 use Rattle.trace_events.specs.Why.{Reason, IsLeastOverwrite, IsLeastStaleNear, IsOverwrite, IsWhy, first_overwrite, least, least_overwritten, least_stale_near, lesser, or_carried, otherwise, overwrites, reason_of_dep, reason_with, reason_within}
-use Rattle.trace_events.proofs.Ancestors.{run_of-near}
+use Rattle.trace_events.proofs.Ancestors.{IsAscending, run_of-near}
 use Rattle.trace_events.proofs.Lists.{no_member, Contains-cons, Contains-filter, Contains-filter_of, Contains-head, find_some}
 use Rattle.trace_events.proofs.Reached.{ancestor_listed, near_listed, near_within_near, reached_ancestor}
 use Rattle.trace_events.proofs.StaleTest.{runs_after_has, stale_within_true, true_stale_within}
@@ -130,18 +129,14 @@ first_overwrite_is h r n m u e =
 
 -- ---- the answer
 
-module _ (names : List (List ℕ)) (traces : List (List Event)) where
-  -- the history of the traces
-  abbrev now : History
-  now = history_of traces
-
+module _ (names : List (List ℕ)) (now : History) (ascend : IsAscending now) where
   -- the ancestors of v that were overwritten, and the near versions of v that were stale
   abbrev test : ℕ → Version → Version → Bool
   test n v = λ u. is_some (first_overwrite now (run_of v) n u)
 
   -- an ancestor that was overwritten is listed
   overwrite_listed : (n : ℕ) (v u : Version) (m : ℕ) → IsOverwrite now n v u m → Contains (filter (test n v) (ancestors_of now v)) u
-  overwrite_listed n v u m o = Contains-filter_of (test n v) (ancestors_of now v) u (ancestor_listed traces o.reached)
+  overwrite_listed n v u m o = Contains-filter_of (test n v) (ancestors_of now v) u (ancestor_listed now ascend o.reached)
       (find_some (λ k. wrote now k u) (runs_after (run_of v) n) m (runs_after_has (run_of v) n m o.after o.upto) o.written)
 
   -- what is listed is an ancestor that was overwritten
@@ -151,13 +146,13 @@ module _ (names : List (List ℕ)) (traces : List (List Event)) where
 
   -- a near version that was stale is listed
   stale_near_listed : (v u : Version) → Near now v u → Stale now (run_of v - 1) u → Contains (filter (is_stale now (run_of v - 1)) (near_of now v)) u
-  stale_near_listed v u nr st = Contains-filter_of (is_stale now (run_of v - 1)) (near_of now v) u (near_listed traces nr)
-      (true_stale_within traces (run_of u + 1) (omega arith) st)
+  stale_near_listed v u nr st = Contains-filter_of (is_stale now (run_of v - 1)) (near_of now v) u (near_listed now ascend nr)
+      (true_stale_within now ascend (run_of u + 1) (omega arith) st)
 
   -- what is listed is a near version that was stale
   listed_stale_near : (v u : Version) → Contains (filter (is_stale now (run_of v - 1)) (near_of now v)) u → Near now v u × Stale now (run_of v - 1) u
   listed_stale_near v u c = let found = Contains-filter (is_stale now (run_of v - 1)) (near_of now v) u c in
-      (near_within_near now (count_of_writes now) v u found.0, stale_within_true traces (run_of u + 1) (run_of v - 1) u found.1)
+      (near_within_near now (count_of_writes now) v u found.0, stale_within_true now ascend (run_of u + 1) (run_of v - 1) u found.1)
 
   -- ---- what the answer says
 

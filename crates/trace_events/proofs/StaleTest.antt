@@ -4,12 +4,11 @@ use Rattle.std.specs.Prelude.{IsTrue}
 use Rattle.std.specs.List.{Contains, list_any, range_with_len}
 use Rattle.std.proofs.Math.Nat.{eq-or-lt_of_le}
 use Rattle.std.proofs.lemmas.Bool.{false≢true, or_cases, or_left, or_right}
-use Rattle.flow_base.specs.declared.event.Event.{Event}
 use Rattle.trace_events.specs.declared.version.Version.{Version}
-use Rattle.trace_events.specs.History.{History, history_of, run_of, wrote}
+use Rattle.trace_events.specs.History.{History, run_of, wrote}
 use Rattle.trace_events.specs.Staleness.{Ancestor, Stale, overwritten, carried}
 use Rattle.trace_events.specs.Decided.{ancestors_of, count_of_writes, is_overwritten, is_stale_within, near_of, runs_after}
-use Rattle.trace_events.proofs.Ancestors.{run_of-near}
+use Rattle.trace_events.proofs.Ancestors.{IsAscending, run_of-near}
 use Rattle.trace_events.proofs.Lists.{no_member, Contains-cons, list_any-Contains, list_any_of}
 use Rattle.trace_events.proofs.Reached.{ancestor_listed, near_listed, near_within_near, reached_ancestor}
 
@@ -40,11 +39,7 @@ runs_after_has r n m lt le = range_has (r + 1) (n - r) m (omega arith) (omega ar
 
 -- ---- stale
 
-module _ (traces : List (List Event)) where
-  -- the history of the traces
-  abbrev now : History
-  now = history_of traces
-
+module _ (now : History) (ascend : IsAscending now) where
   -- one of the runs after v's wrote the location of one of v's ancestors
   pub is_overwritten_true : (n : ℕ) (v : Version) → is_overwritten now n v ≡ true → Stale now n v
   is_overwritten_true n v t =
@@ -56,7 +51,7 @@ module _ (traces : List (List Event)) where
   -- and the other way round
   pub true_is_overwritten : (n m : ℕ) (v u : Version) → Ancestor now v u → IsTrue (wrote now m u) → run_of v < m → m ≤ n → is_overwritten now n v ≡ true
   true_is_overwritten n m v u a w lt le =
-      list_any_of (λ x. list_any (λ k. wrote now k x) (runs_after (run_of v) n)) (ancestors_of now v) u (ancestor_listed traces a)
+      list_any_of (λ x. list_any (λ k. wrote now k x) (runs_after (run_of v) n)) (ancestors_of now v) u (ancestor_listed now ascend a)
       (list_any_of (λ k. wrote now k u) (runs_after (run_of v) n) m (runs_after_has (run_of v) n m lt le) w)
 
   -- what passes the test is stale
@@ -77,4 +72,4 @@ module _ (traces : List (List Event)) where
   true_stale_within (suc runs) lt (carried {n = n} {v = v} {u = u} nr st) =
       let less : run_of u < run_of v = run_of-near now nr in
       or_right (is_overwritten now n v) (list_any (is_stale_within runs now (run_of v - 1)) (near_of now v))
-      (list_any_of (is_stale_within runs now (run_of v - 1)) (near_of now v) u (near_listed traces nr) (true_stale_within runs (omega arith) st))
+      (list_any_of (is_stale_within runs now (run_of v - 1)) (near_of now v) u (near_listed now ascend nr) (true_stale_within runs (omega arith) st))

@@ -274,26 +274,27 @@ key_total = record {
 -- ---- locations
 
 module _ (names : List (List ℕ)) where
-  -- a location as its object, its kind, and the text of its name or its key
-  abbrev Parts : Type 0
-  Parts = ℕ × ℕ × List ℕ × List Key
+  -- a location as its object, its kind, and the text and the number of its name or its key
+  abbrev pub Parts : Type 0
+  Parts = ℕ × ℕ × List ℕ × ℕ × List Key
 
   -- a location as its parts
-  abbrev parts : Loc → Parts
-  parts (Name o s) = (o.0, 0, text_of names s, [])
-  parts (Attr o s) = (o.0, 1, text_of names s, [])
-  parts (Item o k) = (o.0, 2, [], k ∷ [])
-  parts (Present o k) = (o.0, 3, [], k ∷ [])
-  parts (Shape o) = (o.0, 4, [], [])
+  abbrev pub parts : Loc → Parts
+  parts (Name o s) = (o.0, 0, text_of names s, s.0, [])
+  parts (Attr o s) = (o.0, 1, text_of names s, s.0, [])
+  parts (Item o k) = (o.0, 2, [], 0, k ∷ [])
+  parts (Present o k) = (o.0, 3, [], 0, k ∷ [])
+  parts (Shape o) = (o.0, 4, [], 0, [])
 
   -- by object, kind, name and key
-  abbrev by_parts : Parts → Parts → Ordering
-  by_parts = then_cmp (on (λ p. p.0) nat_cmp) (then_cmp (on (λ p. p.1) nat_cmp) (then_cmp (on (λ p. p.2) (slice_cmp nat_cmp)) (on (λ p. p.3) (slice_cmp key_cmp))))
+  abbrev pub by_parts : Parts → Parts → Ordering
+  by_parts = then_cmp (on (λ p. p.0) nat_cmp) (then_cmp (on (λ p. p.1) nat_cmp)
+      (then_cmp (on (λ p. p.2) (slice_cmp nat_cmp)) (then_cmp (on (λ p. p.3) nat_cmp) (on (λ p. p.4) (slice_cmp key_cmp)))))
 
   -- locations are compared by these parts
-  loc_cmp-parts : (a b : Loc) → loc_cmp names a b ≡ on parts by_parts a b
-  loc_cmp-parts (Name o s) (Name p t) = ap (ordering_then (nat_cmp o.0 p.0)) (sym (then_equal (slice_cmp nat_cmp (text_of names s) (text_of names t))))
-  loc_cmp-parts (Attr o s) (Attr p t) = ap (ordering_then (nat_cmp o.0 p.0)) (sym (then_equal (slice_cmp nat_cmp (text_of names s) (text_of names t))))
+  pub loc_cmp-parts : (a b : Loc) → loc_cmp names a b ≡ on parts by_parts a b
+  loc_cmp-parts (Name o s) (Name p t) = ap (λ r. ordering_then (nat_cmp o.0 p.0) (ordering_then (slice_cmp nat_cmp (text_of names s) (text_of names t)) r)) (sym (then_equal (nat_cmp s.0 t.0)))
+  loc_cmp-parts (Attr o s) (Attr p t) = ap (λ r. ordering_then (nat_cmp o.0 p.0) (ordering_then (slice_cmp nat_cmp (text_of names s) (text_of names t)) r)) (sym (then_equal (nat_cmp s.0 t.0)))
   loc_cmp-parts (Item o j) (Item p k) = ap (ordering_then (nat_cmp o.0 p.0)) (sym (then_equal (key_cmp j k)))
   loc_cmp-parts (Present o j) (Present p k) = ap (ordering_then (nat_cmp o.0 p.0)) (sym (then_equal (key_cmp j k)))
   loc_cmp-parts (Shape o) (Shape p) = refl
@@ -303,25 +304,25 @@ module _ (names : List (List ℕ)) where
   loc_total : IsTotalOrder (loc_cmp names)
   loc_total = total_same (loc_cmp names) (on parts by_parts) loc_cmp-parts
       (on_total parts (then_total (on_total (λ p. p.0) nat_cmp_total) (then_total (on_total (λ p. p.1) nat_cmp_total)
-      (then_total (on_total (λ p. p.2) nat_list_cmp_total) (on_total (λ p. p.3) (lists_total key_total))))))
+      (then_total (on_total (λ p. p.2) nat_list_cmp_total) (then_total (on_total (λ p. p.3) nat_cmp_total) (on_total (λ p. p.4) (lists_total key_total)))))))
 
   -- ---- versions
 
   -- a version as its location or its run and place
-  abbrev Spot : Type 0
+  abbrev pub Spot : Type 0
   Spot = ℕ × List Loc × ℕ × ℕ
 
   -- a version as its parts
-  abbrev spot : Version → Spot
+  abbrev pub spot : Version → Spot
   spot (Empty l) = (0, l ∷ [], 0, 0)
   spot (Written run place) = (1, [], run.0, place)
 
   -- what stood before any run first, by location; then by run and place
-  abbrev by_spot : Spot → Spot → Ordering
+  abbrev pub by_spot : Spot → Spot → Ordering
   by_spot = then_cmp (on (λ p. p.0) nat_cmp) (then_cmp (on (λ p. p.1) (slice_cmp (loc_cmp names))) (then_cmp (on (λ p. p.2) nat_cmp) (on (λ p. p.3) nat_cmp)))
 
   -- versions are compared by these parts
-  version_cmp-spot : (u v : Version) → version_cmp names u v ≡ on spot by_spot u v
+  pub version_cmp-spot : (u v : Version) → version_cmp names u v ≡ on spot by_spot u v
   version_cmp-spot (Empty a) (Empty b) = sym (ap (λ o. ordering_then o Equal) (then_equal (loc_cmp names a b)) ∙ then_equal (loc_cmp names a b))
   version_cmp-spot (Empty a) (Written run place) = refl
   version_cmp-spot (Written run place) (Empty b) = refl

@@ -7,7 +7,7 @@ use Rattle.flow_base.specs.declared.event.Event.{Event}
 use Rattle.flow_base.specs.declared.loc.Loc.{Loc}
 use Rattle.trace_events.specs.declared.version.Version.{Version}
 use Rattle.trace_events.specs.declared.version.Version.TheVariants.{Empty, Written as at_write}
-use Rattle.trace_events.specs.Trace.{Seen, before, own, Written, Summary, last_write, summary_of}
+use Rattle.trace_events.specs.Trace.{Seen, Before, Own, Written, Summary, last_write, summary_of}
 
 abbrev pub History : Type 0
 History = List Summary
@@ -75,8 +75,8 @@ current h (suc n) l = or_earlier (suc n) (last_write l (writes_of h (suc n))) (c
 
 -- the version that a read of run n saw
 abbrev pub version_seen : History → ℕ → Seen → Version
-version_seen h n (before l) = current h (n - 1) l
-version_seen h n (own place) = version_at n place
+version_seen h n (Before l) = current h (n - 1) l
+version_seen h n (Own place) = version_at n place
 
 abbrev pub uses_at : Option Written → List Seen
 uses_at None = []

@@ -4,3 +4,4 @@ pub mod Staleness
 pub mod Decided
 pub mod Order
 pub mod Why
+pub mod Lawful

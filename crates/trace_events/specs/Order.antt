@@ -43,8 +43,9 @@ key_cmp a = fold-Key (Key → Ordering) (λ x k. open_cmp x (out-Key k)) a
 abbrev pub text_of : List (List ℕ) → Sym → List ℕ
 text_of names s = slice_index_or names s.0 []
 
+-- by text, and then by number, which tells symbols apart that the table lacks
 abbrev pub name_cmp : List (List ℕ) → Sym → Sym → Ordering
-name_cmp names s t = slice_cmp nat_cmp (text_of names s) (text_of names t)
+name_cmp names s t = ordering_then (slice_cmp nat_cmp (text_of names s) (text_of names t)) (nat_cmp s.0 t.0)
 
 abbrev pub object_of : Loc → ℕ
 object_of (Name o s) = o.0

@@ -9,25 +9,15 @@ use Rattle.flow_base.specs.declared.event.How.{How}
 use Rattle.flow_base.specs.declared.event.How.TheVariants.{Normal, Raise, Break, Continue, Return}
 use Rattle.flow_base.specs.declared.event.ReadHow.{ReadHow}
 use Rattle.flow_base.specs.declared.event.ReadHow.TheVariants.{Use as ByUse, Place as ByPlace}
+pub use Rattle.trace_events.specs.declared.summary.Seen.{Seen}
+pub use Rattle.trace_events.specs.declared.summary.Seen.TheVariants.{Before, Own}
+pub use Rattle.trace_events.specs.declared.summary.StartRead.{StartRead}
+pub use Rattle.trace_events.specs.declared.summary.Write.{Write as Written}
 
 -- ---- what is kept of a run
 
--- what a read saw: what stood at the location before the run, or what the run itself wrote at an earlier place
-pub data Seen : Type 0 where
-  before : Loc → Seen
-  own : ℕ → Seen
-
--- a read of what stood at the location before the run
-pub record StartRead : Type 0 where
-  pub location : Loc
-  pub how : ReadHow
-
--- a write: its place among the events, its location, and what was seen by the uses gathered on the statements open there
-pub record Written : Type 0 where
-  pub place : ℕ
-  pub location : Loc
-  pub uses : List Seen
-
+-- its reads of what stood before it, and its writes, each with its place among the events, its location, and what was seen by
+-- the uses gathered on the statements open there
 pub record Summary : Type 0 where
   pub reads : List StartRead
   pub writes : List Written
@@ -44,8 +34,8 @@ last_write l (w ∷ ws) = or_else (last_write l ws) (if loc_eq w.location l then
 
 -- what a read of the location sees after these writes
 abbrev pub seen_from : Loc → Option ℕ → Seen
-seen_from l (Some place) = own place
-seen_from l None = before l
+seen_from l (Some place) = Own place
+seen_from l None = Before l
 
 abbrev pub seen_after : List Written → Loc → Seen
 seen_after ws l = seen_from l (last_write l ws)
@@ -65,8 +55,8 @@ abbrev pub start : Reading
 start = record { place = 0; open_uses = []; calls = 0; reads = []; writes = [] }
 
 abbrev pub start_read : Seen → ReadHow → List StartRead
-start_read (before l) how = (record { location = l; how = how }) ∷ []
-start_read (own place) how = []
+start_read (Before l) how = (record { location = l; how = how }) ∷ []
+start_read (Own place) how = []
 
 -- a use is gathered on the innermost open statement
 abbrev pub gather : Seen → List (List Seen) → List (List Seen)

@@ -1,6 +1,7 @@
 // What the definitions mean, as laws over the histories of all lists of traces.
 ghost use Rattle.std.specs.Prelude.{◌≡◌, ◌↔◌, ◌⊎◌, ◌+◌, ◌-◌, ◌<◌, ◌≤◌, ℕ, List, [], Some, IsTrue, is_some};
 ghost use Rattle.std.specs.Cmp.{IsTotalOrder};
+ghost use Rattle.std.specs.declared.cmp.Ordering.TheVariants.{Equal};
 ghost use Rattle.std.specs.List.{AllPairs, Contains};
 ghost use Rattle.flow_base.specs.declared.event.Event.{Event};
 ghost use Rattle.flow_base.specs.declared.event.ReadHow.{ReadHow};
@@ -73,5 +74,8 @@ pub fn why_law()
 
 /// The order by which the least version is taken.
 pub fn order_law()
-    ensures { (names : List (List ℕ)) → IsTotalOrder (version_cmp names) }
+    ensures total { (names : List (List ℕ)) → IsTotalOrder (version_cmp names) }
+
+    // it tells all versions apart
+    ensures exact { (names : List (List ℕ)) (u v : Version) → version_cmp names u v ≡ Equal → u ≡ v }
 {}

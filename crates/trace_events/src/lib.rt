@@ -3,7 +3,11 @@
 #![tactic(auto)]
 
 mod laws;
+mod reader;
+mod summary;
 mod version;
 
 pub use laws::{ancestors_law, decided_law, order_law, staleness_law, trace_law, why_law};
+pub use reader::summarize;
+pub use summary::{Seen, StartRead, Summary, Write, find_last, find_write, has_location};
 pub use version::Version;

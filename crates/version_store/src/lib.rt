@@ -1,0 +1,11 @@
+//! The versions that the runs of a session wrote, with what each one directly rests on.
+#![tactic(auto)]
+
+mod hash;
+mod kept;
+mod latest;
+mod locations;
+mod store;
+mod within;
+
+pub use store::Versions;
