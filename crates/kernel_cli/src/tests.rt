@@ -37,9 +37,14 @@ const NO_CELL: &str = "{\"refused\":\"no cell\"}\n";
 
 const SYNTAX_1: &str = "{\"kind\":\"syntax\",\"line\":1,\"refused\":\"syntax\"}\n";
 
-const CHAIN_BEGIN: &str = "{\"cell\":\"c0\",\"event\":\"edit\",\"text\":\"v0 = 1\"}\n{\"cell\":\"c0\",\"event\":\"run\"}\n";
-const CHAIN_END: &str = "{\"cell\":\"c0\",\"event\":\"run\"}\n{\"cell\":\"p\",\"event\":\"edit\",\"text\":\"w = v999\"}\n{\"cell\":\"p\",\"event\":\"run\"}\n";
-const CHAIN_REPLY: &str = "{\"cell\":\"p\",\"end\":\"ok\",\"mark\":{\"stale\":{\"computed\":1000,\"dep\":\"v0\",\"overwritten\":1001,\"symbol\":\"v999\"}},\"out\":\"\",\"run\":1002,\"stale\":[\"v999\"]}\n";
+const CHAIN_BEGIN: &str =
+    "{\"cell\":\"c0\",\"event\":\"edit\",\"text\":\"v0 = 1\"}\n{\"cell\":\"c0\",\"event\":\"run\"}\n";
+
+const CHAIN_END: &str =
+    "{\"cell\":\"c0\",\"event\":\"run\"}\n{\"cell\":\"p\",\"event\":\"edit\",\"text\":\"w = v999\"}\n{\"cell\":\"p\",\"event\":\"run\"}\n";
+
+const CHAIN_REPLY: &str =
+    "{\"cell\":\"p\",\"end\":\"ok\",\"mark\":{\"stale\":{\"computed\":1000,\"dep\":\"v0\",\"overwritten\":1001,\"symbol\":\"v999\"}},\"out\":\"\",\"run\":1002,\"stale\":[\"v999\"]}\n";
 
 fn joined(alloc: Global, pieces: &[&str]) -> Result<Vec<u8>, NoMemory> {
     let mut bytes = Vec::new(alloc);
@@ -133,14 +138,19 @@ fn long_chains_are_followed(rt: HostRuntime) -> Result<(), Fail> {
     let mut log = String::from_str(alloc, CHAIN_BEGIN)?;
     for i in 1..1_000u64 {
         let before = i - 1;
-        let cell = format!(in alloc; "{{\"cell\":\"c{i}\",\"event\":\"edit\",\"text\":\"v{i} = v{before}\"}}\n{{\"cell\":\"c{i}\",\"event\":\"run\"}}\n")?;
+        let cell = format!(in alloc;
+            "{{\"cell\":\"c{i}\",\"event\":\"edit\",\"text\":\"v{i} = v{before}\"}}\n{{\"cell\":\"c{i}\",\"event\":\"run\"}}\n"
+        )?;
         log.push_str(&cell)?;
     }
     log.push_str(CHAIN_END)?;
     let words = one_word(alloc, "run")?;
     let mut source = MemSource::new(alloc, log.as_bytes(), &[])?;
     let mut sink = MemSink::new(alloc, 200_000, &[])?;
-    assert_eq!(rt; ipyflow(alloc, &words, &mut source, &mut sink), Status::Done);
+    assert_eq!(rt;
+        ipyflow(alloc, &words, &mut source, &mut sink),
+        Status::Done
+    );
     assert!(rt; sink.written().ends_with(CHAIN_REPLY.as_bytes()));
     Ok(())
 }
