@@ -9,8 +9,8 @@ use std::alloc::Global;
 // What is kept of a line that is being read: of one that is too long, nothing.
 #[derive(Drop)]
 pub(crate) struct Gathered {
-    pub(crate) kept: Vec<u8>,
-    pub(crate) too_long: bool,
+    kept: Vec<u8>,
+    too_long: bool,
 }
 
 impl Gathered {

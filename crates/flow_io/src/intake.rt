@@ -1,8 +1,8 @@
 // Bytes that come from a source in pieces.
-ghost use Rattle.std.specs.Prelude.{◌≡◌, ◌≤◌, ◌<◌, ◌+◌, ◌++◌, ◌∷◌, [], ℕ, List, false, true, length, take, drop, IfSome, MatchResult, IfOk, OnErr, IsTrue, ⊤};
+ghost use Rattle.std.specs.Prelude.{◌≡◌, ◌≤◌, ◌<◌, ◌+◌, [], ℕ, List, false, true, length, take, drop, IfSome, MatchResult, IfOk};
 ghost use Rattle.std.specs.Io.KnownBytes.{IsAtEnd, prepend_known};
-ghost use Rattle.flow_io.specs.Causes.{HasCause};
 ghost use Rattle.std.specs.List.{position_from};
+ghost use Rattle.flow_io.specs.Causes.{HasCause};
 ghost use Rattle.flow_io.specs.Gathered.{Holds, IsMoved, is_line_feed};
 
 use crate::gathered::Gathered;
@@ -87,7 +87,7 @@ impl Intake {
         }
     }
 
-    // The next piece, where all of the last one was taken. Whether there is one.
+    // Reads the next piece, where all of the last one was taken, and says whether there is one.
     pub(crate) fn refill<S: Source>(&mut self, source: &mut S) -> Result<bool, Failed>
         requires empty { self.old.bytes ≡ [] }
         requires room { self.old.taken ≤ INPUT_LIMIT }

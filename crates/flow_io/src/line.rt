@@ -1,6 +1,6 @@
 // The input, line by line.
-ghost use Rattle.std.specs.Prelude.{◌≡◌, ◌≤◌, ◌+◌, ◌++◌, ◌∷◌, ◌↔◌, List, ℕ, [], true, false, length, Ok, IfOk, IfErr, IsErrOf, OnErr, OnOk, MatchOption, IsTrue};
-ghost use Rattle.std.specs.Io.KnownBytes.{IsAtEnd, prepend_known};
+ghost use Rattle.std.specs.Prelude.{◌≡◌, ◌≤◌, ◌+◌, List, ℕ, [], true, false, length, Ok, IfOk, IsErrOf};
+ghost use Rattle.std.specs.Io.KnownBytes.{IsAtEnd};
 ghost use Rattle.flow_io.specs.Causes.{Rose};
 ghost use Rattle.flow_io.specs.Reader.{HasLine};
 ghost use Rattle.flow_io.specs.declared.line.LineFault.TheVariants.{NoMemory as OutOfMemory};
@@ -46,9 +46,9 @@ impl From<NoMemory> for LineFault {
     }
 }
 
-/// Reads a source line by line, in pieces of at most 4,096 bytes, and never more than one byte over `INPUT_LIMIT`. It
-/// reads only where it holds no whole line. Contracts see the bytes that it took and has not answered, how many it took in all,
-/// whether the source answered its end, and whether it may be called again.
+/// Reads a source line by line. It asks for at most 4,096 bytes a call, never takes more than one byte over
+/// `INPUT_LIMIT`, and reads only where it holds no whole line. Contracts see the bytes that it took and has not answered,
+/// how many it took in all, whether the source answered its end, and whether it may be called again.
 #[derive(Drop)]
 pub struct LineReader {
     alloc: Global,
@@ -90,8 +90,8 @@ impl LineReader {
         self.is_open
     }
 
-    /// How many bytes it holds that the source gave and no line has taken. While a line is read, it keeps besides at
-    /// most a line's limit of bytes, and of a line that is too long nothing.
+    /// How many bytes it holds that the source gave and no line has taken. While a line is read, it keeps besides what
+    /// came of that line, at most `LINE_LIMIT` bytes, and of a line that is too long nothing.
     pub fn held(&self) -> usize
         ensures value { result ≡ length self.now.pending }
         ensures bound { result ≤ 1_052_672 }

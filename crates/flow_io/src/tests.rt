@@ -1,6 +1,4 @@
 // What no clause says: worked examples, and that each call can succeed.
-ghost use Rattle.std.specs.Prelude.{◌≡◌};
-
 use super::*;
 use std::alloc::Global;
 use std::io::Cursor;
