@@ -1,8 +1,6 @@
--- The lines of bytes that begin with a line, and what a reader may still take.
-use Rattle.std.proofs.Common.{◌≡◌, ◌≢◌, ℕ, ◌+◌, ◌<◌, ◌≤◌, List, [], ◌∷◌, ◌++◌, ◌==◌, length, false, true, Ok, Err, ap, refl, arith, length-append, inl, inr}
+-- What a reader may still take, and when it may be called again.
+use Rattle.std.proofs.Common.{◌≡◌, ◌≢◌, ℕ, ◌+◌, ◌<◌, ◌≤◌, List, [], ◌∷◌, ◌++◌, length, true, Ok, Err, ap, refl, arith, length-append, inl, inr}
 use Rattle.std.specs.declared.option.Option.{Option}
-use Rattle.std.proofs.lemmas.Bool.Decides.{eqb_tells}
-use Rattle.flow_base.specs.Lines.{lines_of, whole_lines_of, HasNoEnd, onto, onto_whole}
 use Rattle.flow_io.specs.Reader.{Reader, fuel}
 use Rattle.std.specs.declared.result.Result.{Result}
 use Rattle.std.specs.Io.KnownBytes.{IsAtEnd}
@@ -12,26 +10,6 @@ use Rattle.flow_io.specs.declared.line.Line.TheVariants.{Text, TooLong, End}
 use Rattle.flow_io.specs.declared.line.LineFault.{LineFault}
 use Rattle.flow_io.specs.declared.line.LineFault.TheVariants.{Read, InputLimit, NoMemory}
 use Rattle.flow_io.specs.Reading.{IsFirstLine, IsAnswer, Reads}
-
-eqb_false : (a b : ℕ) → a ≢ b → (a == b) ≡ false
-eqb_false a b differ = elim (eqb_tells a b) [ inl same ↦ absurd (differ same.1) | inr told ↦ told.0 ]
-
-pub lines_of-line : (line rest : List ℕ) → HasNoEnd line → lines_of (line ++ 10 ∷ rest) ≡ line ∷ lines_of rest
-lines_of-line [] rest h = refl
-lines_of-line (b ∷ line) rest h = rw (eqb_false b 10 h.0) (ap (onto b) (lines_of-line line rest h.1))
-
-pub whole_lines_of-line : (line rest : List ℕ) → HasNoEnd line → whole_lines_of (line ++ 10 ∷ rest) ≡ line ∷ whole_lines_of rest
-whole_lines_of-line [] rest h = refl
-whole_lines_of-line (b ∷ line) rest h = rw (eqb_false b 10 h.0) (ap (onto_whole b) (whole_lines_of-line line rest h.1))
-
-pub lines_of_last : (line : List ℕ) → HasNoEnd line → line ≢ [] → lines_of line ≡ line ∷ []
-lines_of_last [] h some = absurd (some refl)
-lines_of_last (b ∷ []) h some = rw (eqb_false b 10 h.0) refl
-lines_of_last (b ∷ c ∷ line) h some = rw (eqb_false b 10 h.0) (ap (onto b) (lines_of_last (c ∷ line) h.1 (λ e. cc)))
-
-pub whole_lines_of_none : (rest : List ℕ) → HasNoEnd rest → whole_lines_of rest ≡ []
-whole_lines_of_none [] h = refl
-whole_lines_of_none (b ∷ rest) h = rw (eqb_false b 10 h.0) (ap (onto_whole b) (whole_lines_of_none rest h.1))
 
 some_length : (line : List ℕ) → line ≢ [] → 0 < length line
 some_length [] some = absurd (some refl)
