@@ -7,3 +7,5 @@ pub mod Extension
 pub mod Exactness
 pub mod Gathering
 pub mod Least
+pub mod KeyOrder
+pub mod WhySteps

@@ -1,3 +1,3 @@
 pub mod Marks
 pub mod Visits
-
+pub mod Answer

@@ -5,10 +5,13 @@ ghost use Rattle.trace_events.specs.declared.version.Version.{Version};
 ghost use Rattle.trace_events.specs.History.{made, made_upto, wrote};
 ghost use Rattle.trace_events.specs.Staleness.{Stale};
 ghost use Rattle.trace_events.specs.Lawful.{AllLawful};
+ghost use Rattle.trace_events.specs.Why.{why_of};
+ghost use Rattle.dependence_graph.specs.Answer.{answer_of};
 ghost use Rattle.dependence_graph.specs.Marks.{carries, is_marked, touches, IsCarried, IsExact, IsTouched, MarksExactly, MarksIf};
 
 use crate::marks::{is_marked, mark_all, mark_if};
-use flow_base::{NoMemory, RunNo};
+use crate::why::{Why, find_why};
+use flow_base::{Names, NoMemory, RunNo};
 use std::alloc::Global;
 use std::collections::BTreeSet;
 use trace_events::Version;
@@ -40,6 +43,19 @@ impl Graph {
     {
         let last = RunNo(versions.len() as u64);
         pass_run(alloc, versions, last, &mut self.stale)
+    }
+
+    /// Why a version is stale when the last run has ended, and `None` exactly where it is not.
+    pub fn why(
+        &self,
+        alloc: Global,
+        versions: &Versions,
+        names: &Names,
+        version: &Version,
+    ) -> Result<Option<Why>, NoMemory>
+        ensures { IfOk result (λ o. o ≡ answer_of versions.now (why_of names.now versions.now (length versions.now) version.now)) }
+    {
+        find_why(alloc, versions, names, version)
     }
 
     /// Whether a version is stale.

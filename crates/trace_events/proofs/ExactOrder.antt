@@ -81,7 +81,7 @@ level_exact (key.Tuple ps) (key.Text t) e = absurd (greater_equal e)
 level_exact (key.Tuple ps) (key.Tuple ks) e = ap key.Tuple (all_exact ps ks e)
 
 -- the comparison with a key that is given by its level
-key_cmp-roll : (x : Key-F Key) (b : Key) → key_cmp (roll-Key x) b ≡ open_cmp (map-Key Key (Key → Ordering) key_cmp x) (out-Key b)
+pub key_cmp-roll : (x : Key-F Key) (b : Key) → key_cmp (roll-Key x) b ≡ open_cmp (map-Key Key (Key → Ordering) key_cmp x) (out-Key b)
 key_cmp-roll x b = ap (λ (compare : Key → Ordering). compare b) (fold-roll-Key (Key → Ordering) (λ x k. open_cmp x (out-Key k)) x)
 
 -- keys that are level are the same

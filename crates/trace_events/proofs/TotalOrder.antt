@@ -173,7 +173,7 @@ module _ {X : Type 0} (R : X → X → Ordering) where
 -- ---- keys
 
 -- the parts of tuples are compared as lists
-parts_cmp-slice : (ps ks : List Key) → parts_cmp (map key_cmp ps) ks ≡ slice_cmp key_cmp ps ks
+pub parts_cmp-slice : (ps ks : List Key) → parts_cmp (map key_cmp ps) ks ≡ slice_cmp key_cmp ps ks
 parts_cmp-slice [] [] = refl
 parts_cmp-slice [] (k ∷ ks) = refl
 parts_cmp-slice (p ∷ ps) [] = refl
