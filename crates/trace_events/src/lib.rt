@@ -5,6 +5,8 @@
 mod laws;
 mod reader;
 mod summary;
+#[cfg(test)]
+mod tests;
 mod version;
 
 pub use laws::{ancestors_law, decided_law, order_law, staleness_law, trace_law, why_law};

@@ -6,6 +6,8 @@ mod kept;
 mod latest;
 mod locations;
 mod store;
+#[cfg(test)]
+mod tests;
 mod within;
 
 pub use store::Versions;

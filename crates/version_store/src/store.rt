@@ -1,5 +1,5 @@
 // The versions of a session.
-ghost use Rattle.std.specs.Prelude.{◌≡◌, ◌+◌, [], ◌∷◌, ◌++◌, IfOk, MatchOption, OnErr, OnOk, length, map};
+ghost use Rattle.std.specs.Prelude.{◌≡◌, ◌+◌, ◌^◌, ◌<◌, [], ◌∷◌, ◌++◌, IfOk, MatchOption, OnErr, OnOk, length, map};
 ghost use Rattle.std.specs.Option.{option_copied};
 ghost use Rattle.trace_events.specs.History.{current, deps, location_of, version_seen, writes_of, wrote};
 ghost use Rattle.trace_events.specs.Lawful.{AllLawful, IsAscendingFrom};
@@ -58,6 +58,7 @@ impl Versions {
     /// How many runs there are.
     pub fn len(&self) -> usize
         ensures len { result ≡ length self.now }
+        ensures small { result < 2 ^ 63 }
         ensures lawful { AllLawful self.now }
     {
         self.runs.len()
