@@ -1,10 +1,10 @@
 -- Exact marks, by the test for stale versions and by the passes.
-use Rattle.std.proofs.Common.{◌≡◌, ℕ, zero, suc, ◌+◌, ◌-◌, ◌<◌, ◌≤◌, Bool, true, false, List, [], ◌∷◌, ◌++◌, length, map, take, min, get_or, refl, sym, ap, subst, ◌∙◌, ⊎_elim, arith}
+use Rattle.std.proofs.Common.{◌≡◌, ℕ, zero, suc, ◌+◌, ◌-◌, ◌<◌, ◌≤◌, Bool, true, false, List, [], ◌∷◌, ◌++◌, length, length-append, map, take, min, get_or, refl, sym, ap, subst, ◌∙◌, ⊎_elim, arith}
 use Rattle.std.specs.Prelude.{IsTrue, OnOk, Result, Ok, Err}
 use Rattle.std.specs.BTreeSet.{BTreeSet}
 use Rattle.std.specs.List.{Contains}
 use Rattle.std.proofs.lemmas.Bool.{cases_lt}
-use Rattle.std.proofs.lemmas.List.{get_or-take, get_or_past, length-take}
+use Rattle.std.proofs.lemmas.List.{get_or-take, get_or_past, length-take, take_all, take-append-le}
 use Rattle.flow_base.specs.declared.no_memory.NoMemory.{NoMemory}
 use Rattle.flow_base.specs.declared.numbers.RunNo.{RunNo}
 use Rattle.trace_events.specs.declared.version.Version.{Version}
@@ -104,3 +104,9 @@ pub exact_after : (h : History) → IsAscending h → (n : ℕ) → n ≡ length
     → OnOk r (MarksExactly (made_upto h n) (Stale h n) marks) → OnOk r (IsExact h marks)
 exact_after h ascend n e (Ok x) marks m = exact_from_pass h ascend marks (subst (λ (k : ℕ). MarksExactly (made_upto h k) (Stale h k) marks) e m)
 exact_after h ascend n e (Err x) marks m = tt
+
+-- what stood before one run more
+pub without_last : (h : History) (s : Summary) → take (length (h ++ s ∷ []) - 1) (h ++ s ∷ []) ≡ h
+without_last h s =
+    let size : length (h ++ s ∷ []) - 1 ≡ length h = omega (arith, length-append h (s ∷ [])) in
+    ap (λ (n : ℕ). take n (h ++ s ∷ [])) size ∙ take-append-le (length h) h (s ∷ []) (omega arith) ∙ take_all (length h) h (omega arith)

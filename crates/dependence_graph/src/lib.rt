@@ -9,3 +9,6 @@ mod why;
 
 pub use graph::Graph;
 pub use why::Why;
+
+#[cfg(test)]
+mod tests;
