@@ -1,0 +1,5 @@
+pub mod ExactNumbers
+pub mod NumberLemmas
+pub mod SearchLemmas
+pub mod TextLemmas
+pub mod WideText
