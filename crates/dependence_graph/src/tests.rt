@@ -31,8 +31,8 @@ fn run(a: Global, versions: &mut Versions, graph: &mut Graph, line: Line) -> Res
 {
     let events = events_of(a, line)?;
     let kept = summarize(a, events.as_slice())?;
-    let number = RunNo(versions.len() as u64 + 1);
-    versions.add_run(number, kept)?;
+    let number = (versions.len() as u64).checked_add(1).ok_or(NoMemory)?;
+    versions.add_run(RunNo(number), kept)?;
     graph.after_run(a, versions)
 }
 
