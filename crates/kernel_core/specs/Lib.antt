@@ -3,6 +3,7 @@ pub mod Reading
 pub mod Run
 pub mod Lineage
 pub mod Marking
+pub mod Clean
 pub mod State
 pub mod Kernel
 pub mod Answer

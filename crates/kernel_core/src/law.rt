@@ -1,12 +1,32 @@
 // Laws of the answers.
-ghost use Rattle.std.specs.Prelude.{◌≡◌, true};
+ghost use Rattle.std.specs.Prelude.{◌≡◌, List, [], true};
 ghost use Rattle.flow_wire.specs.declared.ask.Ask.{Ask};
 ghost use Rattle.flow_wire.specs.Replied.{is_refusal};
 ghost use Rattle.kernel_core.specs.Kernel.{Held};
+ghost use Rattle.flow_wire.specs.declared.reply.MarkText.TheVariants.{Clean};
+ghost use Rattle.kernel_core.specs.declared.accepted.Accepted.{Accepted};
+ghost use Rattle.kernel_core.specs.declared.state.Kept.{Kept};
 ghost use Rattle.kernel_core.specs.Answer.{answer_of};
+ghost use Rattle.kernel_core.specs.Clean.{HasNoStaleUse, LeavesNoStale};
+ghost use Rattle.kernel_core.specs.Lineage.{events_from, mark_of, stale_paths};
+ghost use Rattle.kernel_core.specs.State.{state_of};
 
 /// A refusal leaves the kernel as it was.
 pub fn answer_law()
     ensures { (k : Held) (a : Ask)
         → is_refusal (answer_of k a).reply ≡ true → (answer_of k a).kernel ≡ k }
+{}
+
+/// A run that is marked clean uses nothing stale, names nothing stale, and leaves nothing stale, over the history that the
+/// log has.
+pub fn clean_law()
+    ensures uses { (log : List Accepted) (kept : Kept) → let s = state_of log in
+        mark_of s.names s.versions kept.assigns ≡ Clean
+        → HasNoStaleUse s.versions (events_from s.names s.values kept.assigns) }
+    ensures leaves { (log : List Accepted) (kept : Kept) → let s = state_of log in
+        mark_of s.names s.versions kept.assigns ≡ Clean
+        → LeavesNoStale s.versions (events_from s.names s.values kept.assigns) }
+    ensures names { (log : List Accepted) (kept : Kept) → let s = state_of log in
+        mark_of s.names s.versions kept.assigns ≡ Clean
+        → stale_paths s.names s.versions (events_from s.names s.values kept.assigns) ≡ [] }
 {}

@@ -1,0 +1,11 @@
+use Rattle.kernel_core.proofs.CleanRuns.{clean_has_no_stale_use, clean_leaves_no_stale, clean_names_no_stale}
+use Rattle.kernel_core.proofs.law.clean_law.Goals as goal
+
+pub returns-clause-uses : goal.returns-clause-uses
+returns-clause-uses c = λ log kept m. clean_has_no_stale_use log kept.assigns m
+
+pub returns-clause-leaves : goal.returns-clause-leaves
+returns-clause-leaves c = λ log kept m. clean_leaves_no_stale log kept.assigns m
+
+pub returns-clause-names : goal.returns-clause-names
+returns-clause-names c = λ log kept m. clean_names_no_stale log kept.assigns m
