@@ -1,6 +1,6 @@
 -- Exact marks, by the test for stale versions and by the passes.
-use Rattle.std.proofs.Common.{◌≡◌, ℕ, zero, suc, ◌+◌, ◌-◌, ◌<◌, ◌≤◌, Bool, true, false, List, [], ◌∷◌, ◌++◌, length, length-append, map, take, min, get_or, refl, sym, ap, subst, ◌∙◌, ⊎_elim, arith}
-use Rattle.std.specs.Prelude.{IsTrue, OnOk, Result, Ok, Err}
+use Rattle.std.proofs.Common.{◌≡◌, ℕ, zero, suc, ◌+◌, ◌-◌, ◌<◌, ◌≤◌, Bool, true, false, List, [], ◌∷◌, ◌++◌, length, length-append, map, take, refl, sym, ap, subst, ◌∙◌, ⊎_elim, arith}
+use Rattle.std.specs.Prelude.{OnOk, Result, Ok, Err}
 use Rattle.std.specs.BTreeSet.{BTreeSet}
 use Rattle.std.specs.List.{Contains}
 use Rattle.std.proofs.lemmas.Bool.{cases_lt}
@@ -10,7 +10,7 @@ use Rattle.flow_base.specs.declared.numbers.RunNo.{RunNo}
 use Rattle.trace_events.specs.declared.version.Version.{Version}
 use Rattle.trace_events.specs.Trace.{Summary}
 use Rattle.trace_events.specs.declared.summary.Write.{Write as Written}
-use Rattle.trace_events.specs.History.{History, made, made_upto, run_of, version_at, writes_of}
+use Rattle.trace_events.specs.History.{History, made_upto, run_of, version_at, writes_of}
 use Rattle.trace_events.specs.Decided.{is_stale}
 use Rattle.trace_events.specs.Staleness.{Stale}
 use Rattle.trace_events.proofs.Ancestors.{IsAscending}
@@ -18,9 +18,9 @@ use Rattle.trace_events.proofs.Reached.{made_upto_made, made_within}
 use Rattle.trace_events.specs.Lawful.{IsAscendingFrom}
 use Rattle.trace_events.proofs.StaleTest.{stale_within_true, true_stale_within}
 use Rattle.dependence_graph.specs.Marks.{is_marked, IsExact, MarksExactly}
-use Rattle.dependence_graph.proofs.Creation.{run_of-made_upto}
-use Rattle.dependence_graph.proofs.Extension.{SameUpto, same_back, stale_to}
-use Rattle.dependence_graph.proofs.Recurrence.{stale_made}
+use Rattle.version_store.proofs.Creation.{run_of-made_upto}
+use Rattle.version_store.proofs.SameRuns.{SameUpto, same_back, stale_to}
+use Rattle.version_store.proofs.Recurrence.{stale_made}
 
 -- two tests are the same where each holds with the other
 pub same_tests : (a b : Bool) → (a ≡ true → b ≡ true) → (b ≡ true → a ≡ true) → a ≡ b

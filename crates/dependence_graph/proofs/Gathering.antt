@@ -3,7 +3,7 @@ use Rattle.std.proofs.Common.{◌≡◌, ℕ, zero, suc, ◌+◌, ◌-◌, ◌<�
 use Rattle.std.specs.Prelude.{IsTrue}
 use Rattle.std.specs.BTreeSet.{BTreeSet}
 use Rattle.std.specs.List.{Contains}
-use Rattle.std.proofs.lemmas.Bool.{cases_Bool, cases_lt, true≢false}
+use Rattle.std.proofs.lemmas.Bool.{cases_Bool, true≢false}
 use Rattle.std.proofs.lemmas.List.{take_more}
 use Rattle.std.proofs.lemmas.List.Elements.{Contains-append_left, Contains-append_right, Contains-append_cases, Contains-push_cases}
 use Rattle.flow_base.specs.declared.loc.Loc.{Loc}
@@ -19,7 +19,7 @@ use Rattle.trace_events.proofs.Lists.{no_member, Contains-head}
 use Rattle.trace_events.proofs.Reached.{made_deps, made_upto_made, made_within}
 use Rattle.dependence_graph.specs.Marks.{is_marked, AddsMark}
 use Rattle.dependence_graph.specs.Visits.{Reached, direct, further, IsWritten, AddsWritten, AreGathered, Visits}
-use Rattle.dependence_graph.proofs.Creation.{before, deps_before, longer, run_of-dep, run_of-made_upto}
+use Rattle.version_store.proofs.Creation.{before, deps_before, longer, run_of-dep, run_of-made_upto}
 
 abbrev Marks : Type 0
 Marks = BTreeSet (RunNo × ℕ)

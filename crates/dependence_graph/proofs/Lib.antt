@@ -1,9 +1,5 @@
 pub mod SetLaws
-pub mod Recurrence
-pub mod Creation
-pub mod Lawful
 pub mod Passes
-pub mod Extension
 pub mod Exactness
 pub mod Gathering
 pub mod Least

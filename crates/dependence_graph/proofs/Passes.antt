@@ -1,23 +1,24 @@
 -- The passes over a history: what they test, and what they mark.
-use Rattle.std.proofs.Common.{◌≡◌, ℕ, zero, suc, ◌+◌, ◌-◌, ◌<◌, ◌≤◌, ◌⊎◌, inl, inr, Bool, true, false, ◌||◌, List, [], ◌∷◌, ◌++◌, length, take, get_or, refl, sym, ap, subst, ◌∙◌, ⊎_elim, arith}
+use Rattle.std.proofs.Common.{◌≡◌, ℕ, suc, ◌+◌, ◌-◌, ◌<◌, ◌≤◌, Bool, true, false, ◌||◌, List, [], ◌∷◌, ◌++◌, length, take, get_or, refl, sym, ap, subst, ◌∙◌, ⊎_elim, arith}
 use Rattle.std.specs.Prelude.{IsTrue}
 use Rattle.std.specs.BTreeSet.{BTreeSet}
-use Rattle.std.specs.List.{Contains, list_any}
+use Rattle.std.specs.List.{Contains}
 use Rattle.std.proofs.lemmas.Bool.{true≢false, cases_Bool, or_cases, or_left, or_right}
 use Rattle.std.proofs.lemmas.List.Elements.{Contains-append_left, Contains-append_right, Contains-append_cases}
 use Rattle.flow_base.specs.declared.numbers.RunNo.{RunNo}
 use Rattle.trace_events.specs.declared.version.Version.{Version}
 use Rattle.trace_events.specs.declared.summary.Write.{Write as Written}
-use Rattle.trace_events.specs.History.{History, deps, made, made_upto, run_of, version_at, wrote, writes_of}
-use Rattle.trace_events.specs.Staleness.{Ancestor, Near, Stale}
+use Rattle.trace_events.specs.History.{History, deps, made, made_upto, run_of, version_at, writes_of}
+use Rattle.trace_events.specs.Staleness.{Stale}
 use Rattle.trace_events.proofs.Ancestors.{IsAscending}
 use Rattle.trace_events.proofs.Lists.{list_any-Contains, list_any_of}
-use Rattle.trace_events.proofs.Reached.{made_upto_made, made_within}
+use Rattle.trace_events.proofs.Reached.{made_upto_made}
 use Rattle.trace_events.proofs.StepLaw.{stale_kept}
-use Rattle.dependence_graph.specs.Marks.{carries, is_marked, touches, AddsMarks, MarksExactly, MarksIf, IsTouched, IsCarried}
+use Rattle.dependence_graph.specs.Marks.{carries, is_marked, AddsListed, AddsMarks, MarksExactly, MarksIf}
+use Rattle.version_store.specs.Dependents.{IsCarried, IsListed, IsTouched, Touches}
 use Rattle.dependence_graph.proofs.SetLaws.{MarksExactly-yes, MarksExactly-no}
-use Rattle.dependence_graph.proofs.Creation.{before, made_upto_split, deps_before, deps_first, longer, run_of-made, run_of-made_upto, take_made, Contains-take}
-use Rattle.dependence_graph.proofs.Recurrence.{ancestor_made, near_made, stale_made, stale_split, stale_touched, stale_last, stale_carried, touched_cases, touched_direct, touched_further, carried_cases, carried_direct, carried_within}
+use Rattle.version_store.proofs.Creation.{deps_first, run_of-made, run_of-made_upto, take_made, Contains-take}
+use Rattle.version_store.proofs.Recurrence.{ancestor_made, near_made, stale_made, stale_split, stale_touched, stale_last, stale_carried, carried_cases, carried_direct, carried_within}
 
 abbrev Marks : Type 0
 Marks = BTreeSet (RunNo × ℕ)
@@ -33,31 +34,6 @@ module _ (passed : List Version) (P : Version → Type 0) (v : Version) (test : 
 module _ (h : History) (ascend : IsAscending h) (n k : ℕ) (w : Written) (lt : k < length (writes_of h n)) (is : w ≡ get_or (writes_of h n) k w) where
   abbrev at : Version
   at = version_at n w.place
-
-  -- ---- the pass over the versions of earlier runs, for what run m wrote
-
-  module _ (m : ℕ) (marks : Marks) (exact : MarksExactly (before h ascend n k w lt is) (IsTouched h m) marks) where
-    touches_true : touches h m marks at ≡ true → IsTouched h m at
-    touches_true t =
-        let f = list_any-Contains (λ (u : Version). wrote h m u || is_marked marks u) (deps h at) t in
-        ⊎_elim
-        (λ (x : wrote h m f.0 ≡ true). touched_direct h m at f.0 f.1 x)
-        (λ (x : is_marked marks f.0 ≡ true). touched_further h m at f.0 f.1 ((exact.only f.0 x).1))
-        (or_cases (wrote h m f.0) (is_marked marks f.0) f.2)
-
-    touches_false : touches h m marks at ≡ false → IsTouched h m at → ⊥
-    touches_false t x =
-        let f = touched_cases h m x.reached x.written in
-        let hit : (wrote h m f.0 || is_marked marks f.0) ≡ true = ⊎_elim
-        (λ (y : IsTrue (wrote h m f.0)). or_left (wrote h m f.0) (is_marked marks f.0) y)
-        (λ (y : IsTouched h m f.0). or_right (wrote h m f.0) (is_marked marks f.0)
-        (exact.each f.0 (deps_before h ascend n k w lt is f.0 f.1 (ancestor_made h y.reached)) y))
-        f.2 in
-        true≢false (sym (list_any_of (λ (u : Version). wrote h m u || is_marked marks u) (deps h at) f.0 f.1 hit) ∙ t)
-
-    pub touched_next : (next : Marks) → MarksIf (touches h m marks at) marks next at → MarksExactly (made_upto h (n - 1) ++ take (k + 1) (made h n)) (IsTouched h m) next
-    touched_next next r = subst (λ (l : List Version). MarksExactly l (IsTouched h m) next) (longer h ascend n k w lt is)
-        (one_more (before h ascend n k w lt is) (IsTouched h m) at (touches h m marks at) marks next exact touches_true touches_false r)
 
   -- ---- the pass over the versions of the last run
 
@@ -95,16 +71,25 @@ module _ (h : History) (ascend : IsAscending h) (n k : ℕ) (w : Written) (lt : 
 
 -- ---- all marks after one more run
 
-module _ (h : History) (b n : ℕ) (after : n ≡ suc b) (old touched fresh mid new : Marks) (were : MarksExactly (made_upto h b) (Stale h b) old)
-    (t : MarksExactly (made_upto h b) (IsTouched h n) touched) (f : MarksExactly (made h n) (IsCarried h b) fresh)
-    (one : AddsMarks old touched mid) (two : AddsMarks mid fresh new) where
+module _ (h : History) (b n : ℕ) (after : n ≡ suc b) (old fresh mid new : Marks) (touched : List (RunNo × ℕ)) (were : MarksExactly (made_upto h b) (Stale h b) old)
+    (t : Touches h n touched) (f : MarksExactly (made h n) (IsCarried h b) fresh)
+    (one : AddsListed old touched mid) (two : AddsMarks mid fresh new) where
   upto_split : made_upto h n ≡ made_upto h b ++ made h n
   upto_split = rw after refl
+
+  touched_marked : (v : Version) → Contains (made_upto h b) v → IsTouched h n v → IsTrue (is_marked mid v)
+  touched_marked v c now =
+      let low : run_of v ≤ b = run_of-made_upto h b v c in
+      let back : n - 1 ≡ b = omega arith in
+      ⊎_elim
+      (λ (was : Stale h (n - 1) v). one.kept v (were.each v c (subst (λ (m : ℕ). Stale h m v) back was)))
+      (λ (l : IsListed touched v). one.added v l)
+      (t.complete v (omega arith) now)
 
   earlier_stale : (v : Version) → Contains (made_upto h b) v → Stale h n v → IsTrue (is_marked new v)
   earlier_stale v c s = ⊎_elim
       (λ (was : Stale h b v). two.kept v (one.kept v (were.each v c was)))
-      (λ (now : IsTouched h n v). two.kept v (one.added v (t.each v c now)))
+      (λ (now : IsTouched h n v). two.kept v (touched_marked v c now))
       (stale_split h b n after s)
 
   marked_earlier : (v : Version) → Contains (made_upto h b) v × Stale h n v → Contains (made_upto h n) v × Stale h n v
@@ -114,10 +99,9 @@ module _ (h : History) (b n : ℕ) (after : n ≡ suc b) (old touched fresh mid 
   stale_marked v m = ⊎_elim
       (λ (x : IsTrue (is_marked mid v)). marked_earlier v (⊎_elim
       (λ (o : IsTrue (is_marked old v)). let q = were.only v o in (q.0, stale_kept h b n (omega arith) q.1))
-      (λ (w : IsTrue (is_marked touched v)). let q = t.only v w in
-      let low : run_of v ≤ b = run_of-made_upto h b v q.0 in
-      let less : run_of v < n = omega arith in
-      (q.0, stale_touched h n v less q.1))
+      (λ (w : IsListed touched v). let q = t.sound v w in
+      let less : run_of v < n = q.0 in
+      (made_upto_made h (run_of v) b v (omega arith) (ancestor_made h q.1.reached), stale_touched h n v less q.1))
       (one.only v x)))
       (λ (x : IsTrue (is_marked fresh v)). let q = f.only v x in (
         subst (λ (l : List Version). Contains l v) (sym upto_split) (Contains-append_right (made_upto h b) (made h n) v q.0),
@@ -144,13 +128,6 @@ module _ (h : History) (ascend : IsAscending h) (n k : ℕ) (xs : List Written) 
     here : w ≡ get_or (writes_of h n) k w
     here = is ∙ ap (λ (l : List Written). get_or l k w) same
 
-    pub touched_item : (m : ℕ) (marks next : Marks) → MarksIf (touches h m marks (version_at n place)) marks next (version_at n place)
-        → MarksExactly (made_upto h (n - 1) ++ take k (made h n)) (IsTouched h m) marks
-        → MarksExactly (made_upto h (n - 1) ++ take (k + 1) (made h n)) (IsTouched h m) next
-    touched_item m marks next r exact =
-        touched_next h ascend n k w below here m marks exact next
-        (subst (λ (p : ℕ). MarksIf (touches h m marks (version_at n p)) marks next (version_at n p)) there r)
-
     pub carried_item : (old fresh next : Marks) → 0 < n → MarksIf (carries h old fresh (version_at n place)) fresh next (version_at n place)
         → MarksExactly (made_upto h (n - 1)) (Stale h (n - 1)) old
         → MarksExactly (take k (made h n)) (IsCarried h (n - 1)) fresh
@@ -158,7 +135,3 @@ module _ (h : History) (ascend : IsAscending h) (n k : ℕ) (xs : List Written) 
     carried_item old fresh next pos r were exact =
         carried_next h ascend n k w below here (n - 1) (omega arith) old fresh were exact next
         (subst (λ (p : ℕ). MarksIf (carries h old fresh (version_at n p)) fresh next (version_at n p)) there r)
-
-  pub touched_all : (m : ℕ) (marks : Marks) → 0 < n → length xs ≤ k → MarksExactly (made_upto h (n - 1) ++ take k (made h n)) (IsTouched h m) marks → MarksExactly (made_upto h n) (IsTouched h m) marks
-  touched_all m marks pos le exact = subst (λ (l : List Version). MarksExactly l (IsTouched h m) marks)
-      (made_upto_split h n k pos (subst (λ (l : List Written). length l ≤ k) same le)) exact

@@ -1,27 +1,20 @@
 -- How marks change.
-use Rattle.std.proofs.Common.{◌≡◌, ℕ, ◌⊎◌, inl, inr, Bool, true, false, cond, ◌||◌, List, [], ◌∷◌, ◌++◌, refl, sym, ap, subst, ◌∙◌, ⊎_elim}
+use Rattle.std.proofs.Common.{◌≡◌, ℕ, ◌⊎◌, inl, inr, Bool, true, false, cond, List, [], ◌∷◌, ◌++◌, refl, sym, ap, subst, ◌∙◌, ⊎_elim}
 use Rattle.std.specs.Prelude.{IsTrue}
 use Rattle.std.specs.BTreeSet as set
 use Rattle.std.specs.BTreeSet.{BTreeSet}
 use Rattle.std.specs.BTreeMap.{is_at}
 use Rattle.std.specs.Cmp.{Equal-is}
 use Rattle.std.specs.List.{Contains, list_any}
-use Rattle.std.specs.Ordering.{nat_cmp}
-use Rattle.std.specs.declared.cmp.Ordering.TheVariants.{Equal}
 use Rattle.std.proofs.lemmas.Bool.{or_cases, or_left, or_right}
-use Rattle.std.proofs.lemmas.Map.Lookups.{CmpEqualImpliesEq, exact_pairs, exact_unsigned}
 use Rattle.std.proofs.lemmas.List.Elements.{Contains-append_left, Contains-push, Contains-push_cases}
 use Rattle.flow_base.specs.declared.numbers.RunNo.{RunNo}
+use Rattle.trace_events.proofs.Lists.{no_member}
 use Rattle.trace_events.specs.declared.version.Version.{Version}
 use Rattle.trace_events.specs.declared.version.Version.TheVariants.{Empty, Written}
-use Rattle.dependence_graph.specs.Marks.{place_cmp, is_marked, AddsMark, AddsMarks, MarksExactly}
-
--- two runs that compare as equal are one
-exact_runs : CmpEqualImpliesEq (λ (a b : RunNo). nat_cmp a.0 b.0)
-exact_runs a b e = ap (λ (n : ℕ). let r : RunNo = record { 0 = n } in r) (exact_unsigned a.0 b.0 e)
-
-exact_places : CmpEqualImpliesEq place_cmp
-exact_places = exact_pairs (λ (a b : RunNo). nat_cmp a.0 b.0) nat_cmp exact_runs exact_unsigned
+use Rattle.version_store.specs.Dependents.{place_cmp, IsListed}
+use Rattle.version_store.proofs.PlaceSets.{exact_places, Contains-one, IsListed-cases, IsListed-left}
+use Rattle.dependence_graph.specs.Marks.{is_marked, AddsListed, AddsMark, AddsMarks, MarksExactly}
 
 -- ---- one version more
 
@@ -94,3 +87,33 @@ module _ (passed : List Version) (P : Version → Type 0) (v : Version) where
         (λ (e : v ≡ u). absurd (p (subst P (sym e) q)))
         (Contains-push_cases passed v u c);
   }
+
+-- ---- the versions of a list
+
+pub AddsListed-none : (old : BTreeSet (RunNo × ℕ)) → AddsListed old [] old
+AddsListed-none old = record { kept = λ u t. t; added = none; only = λ u t. inl t }
+  where
+    none : (u : Version) → IsListed [] u → IsTrue (is_marked old u)
+    none (Empty l) c = elim c [ ]
+    none (Written run place) c = absurd (no_member (run, place) c)
+
+pub AddsListed-more : (old mid new : BTreeSet (RunNo × ℕ)) (places : List (RunNo × ℕ)) (run : RunNo) (place : ℕ) → AddsListed old places mid
+    → AddsMark mid new (Written run place) → AddsListed old (places ++ (run, place) ∷ []) new
+AddsListed-more old mid new places run place a m = record {
+  kept = λ u t. m.kept u (a.kept u t);
+  added = λ u c. ⊎_elim
+      (λ (x : IsListed places u). m.kept u (a.added u x))
+      (λ (x : IsListed ((run, place) ∷ []) u). subst (λ (w : Version). IsTrue (is_marked new w)) (one u x) m.here)
+      (IsListed-cases places ((run, place) ∷ []) u c);
+  only = λ u t. ⊎_elim
+      (λ (e : u ≡ Written run place). inr (subst (λ (w : Version). IsListed (places ++ (run, place) ∷ []) w) (sym e) (Contains-push places (run, place))))
+      (λ (x : IsTrue (is_marked mid u)). ⊎_elim
+      (λ (y : IsTrue (is_marked old u)). inl y)
+      (λ (y : IsListed places u). inr (IsListed-left places ((run, place) ∷ []) u y))
+      (a.only u x))
+      (m.only u t);
+}
+  where
+    one : (u : Version) → IsListed ((run, place) ∷ []) u → Written run place ≡ u
+    one (Empty l) c = elim c [ ]
+    one (Written r i) c = ap (λ (p : RunNo × ℕ). Written p.0 p.1) (Contains-one (run, place) (r, i) c)

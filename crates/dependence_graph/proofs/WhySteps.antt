@@ -1,14 +1,14 @@
 -- How the reason is found.
-use Rattle.std.proofs.Common.{◌≡◌, ℕ, zero, suc, ◌+◌, ◌-◌, ◌<◌, ◌≤◌, ◌&&◌, ◌++◌, Bool, true, false, cond, List, [], ◌∷◌, length, take, get_or, refl, sym, ap, subst, ◌∙◌, ⊎_elim, add-one, lt-ltb, ltb-true, arith}
-use Rattle.std.specs.Prelude.{IsTrue, IfOk, Option, Some, None, Result, Ok, Err, filter, find, is_some, nat_lt}
+use Rattle.std.proofs.Common.{◌≡◌, ℕ, zero, suc, ◌+◌, ◌-◌, ◌<◌, ◌≤◌, ◌&&◌, ◌++◌, Bool, true, false, cond, List, [], ◌∷◌, length, take, get_or, min, refl, sym, ap, subst, ◌∙◌, add-one, lt-ltb, ltb-true, arith}
+use Rattle.std.specs.Prelude.{IfOk, IsTrue, Option, Some, None, Result, Ok, Err, filter, find, is_some, nat_lt}
 use Rattle.std.specs.BTreeSet.{BTreeSet}
 use Rattle.std.specs.List.{Contains, range_with_len}
-use Rattle.std.proofs.lemmas.Bool.{and_from, and_parts, false≢true}
+use Rattle.std.proofs.lemmas.Bool.{and_from, and_parts, false≢true, false_from_ne_true}
 use Rattle.std.proofs.lemmas.List.Elements.{filter_more}
 use Rattle.flow_base.specs.declared.no_memory.NoMemory.{NoMemory}
 use Rattle.flow_base.specs.declared.numbers.RunNo.{RunNo}
 use Rattle.trace_events.specs.declared.version.Version.{Version}
-use Rattle.trace_events.specs.History.{History, deps, made_upto, run_of, wrote}
+use Rattle.trace_events.specs.History.{History, made_upto, run_of, wrote}
 use Rattle.trace_events.specs.Decided.{ancestors_of, count_of_writes, is_stale, near_of, runs_after}
 use Rattle.trace_events.specs.Staleness.{Ancestor, Near, Stale}
 use Rattle.trace_events.specs.Staleness as stale
@@ -22,7 +22,7 @@ use Rattle.dependence_graph.specs.Visits.{Reached}
 use Rattle.dependence_graph.proofs.Exactness.{is_stale_true, true_is_stale}
 use Rattle.dependence_graph.proofs.Gathering.{ancestor_reached, near_reached, reached_ancestor, reached_near, some_run}
 use Rattle.dependence_graph.proofs.Least.{least_filter}
-use Rattle.dependence_graph.proofs.Recurrence.{stale_made}
+use Rattle.version_store.proofs.Recurrence.{stale_made}
 
 -- ---- lists
 
@@ -175,3 +175,17 @@ pub overwrite_next : (h : History) (b n : ℕ) (v : Version) → b < n → wrote
 overwrite_next h b n v lt f =
     ap (find (λ m. wrote h m v)) (runs_after-next b n lt)
     ∙ ap (λ (t : Bool). cond t (Some (b + 1)) (find (λ m. wrote h m v) (runs_after (b + 1) n))) f
+
+-- no run wrote the location
+overwrite_none : (steps : ℕ) (h : History) (b n : ℕ) (v : Version) → n - b ≡ steps → ((m : ℕ) → b < m → m ≤ n → wrote h m v ≡ false) → first_overwrite h b n v ≡ None
+overwrite_none zero h b n v e never = ap (λ (k : ℕ). find (λ m. wrote h m v) (range_with_len (b + 1) k)) e
+overwrite_none (suc steps) h b n v e never =
+    let less : b < n = omega arith in
+    overwrite_next h b n v less (never (b + 1) (omega arith) (omega arith)) ∙ overwrite_none steps h (b + 1) n v (omega arith) (λ m lt le. never m (omega arith) le)
+
+-- where all runs were gone over up to the last that wrote it
+pub none_after : (h : History) (b n upto writer : ℕ) (v : Version) → upto ≡ min n writer → upto ≤ b → ((m : ℕ) → IsTrue (wrote h m v) → m ≤ writer)
+    → first_overwrite h b n v ≡ None
+none_after h b n upto writer v is past last =
+    overwrite_none (n - b) h b n v refl
+    (λ m lt le. false_from_ne_true (wrote h m v) (λ t. let w : m ≤ writer = last m t in absurd (let no_room : ⊥ = omega arith in no_room)))

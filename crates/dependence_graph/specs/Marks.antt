@@ -3,18 +3,12 @@ use Rattle.std.specs.Prelude.{◌≡◌, ◌⊎◌, ◌||◌, ℕ, Bool, true, f
 use Rattle.std.specs.BTreeSet as set
 use Rattle.std.specs.BTreeSet.{BTreeSet}
 use Rattle.std.specs.List.{Contains, list_any}
-use Rattle.std.specs.Ordering.{nat_cmp, ordering_then}
-use Rattle.std.specs.declared.cmp.Ordering.{Ordering}
 use Rattle.flow_base.specs.declared.numbers.RunNo.{RunNo}
 use Rattle.trace_events.specs.declared.version.Version.{Version}
 use Rattle.trace_events.specs.declared.version.Version.TheVariants.{Empty, Written}
 use Rattle.trace_events.specs.Decided.{is_stale}
-use Rattle.trace_events.specs.History.{History, deps, wrote}
-use Rattle.trace_events.specs.Staleness.{Ancestor, Near, Stale}
-
--- by run, and then by place
-abbrev pub place_cmp : RunNo × ℕ → RunNo × ℕ → Ordering
-place_cmp a b = ordering_then (nat_cmp a.0.0 b.0.0) (nat_cmp a.1 b.1)
+use Rattle.trace_events.specs.History.{History, deps}
+use Rattle.version_store.specs.Dependents.{place_cmp, IsListed}
 
 -- a version that a run wrote is marked where its run and its place are in the set
 abbrev pub is_marked : BTreeSet (RunNo × ℕ) → Version → Bool
@@ -44,11 +38,13 @@ pub record AddsMarks (old more new : BTreeSet (RunNo × ℕ)) : Type 0 where
   pub added : (u : Version) → IsTrue (is_marked more u) → IsTrue (is_marked new u)
   pub only : (u : Version) → IsTrue (is_marked new u) → IsTrue (is_marked old u) ⊎ IsTrue (is_marked more u)
 
--- ---- a pass
+-- the listed versions are marked too
+pub record AddsListed (old : BTreeSet (RunNo × ℕ)) (places : List (RunNo × ℕ)) (new : BTreeSet (RunNo × ℕ)) : Type 0 where
+  pub kept : (u : Version) → IsTrue (is_marked old u) → IsTrue (is_marked new u)
+  pub added : (u : Version) → IsListed places u → IsTrue (is_marked new u)
+  pub only : (u : Version) → IsTrue (is_marked new u) → IsTrue (is_marked old u) ⊎ IsListed places u
 
--- run m wrote the location of something that v rests on, or that is marked
-abbrev pub touches : History → ℕ → BTreeSet (RunNo × ℕ) → Version → Bool
-touches h m marks v = list_any (λ u. wrote h m u || is_marked marks u) (deps h v)
+-- ---- a pass
 
 -- something that v rests on was marked before, or is marked now
 abbrev pub carries : History → BTreeSet (RunNo × ℕ) → BTreeSet (RunNo × ℕ) → Version → Bool
@@ -58,15 +54,3 @@ carries h old fresh v = list_any (λ u. is_marked old u || is_marked fresh u) (d
 pub record MarksExactly (listed : List Version) (P : Version → Type 0) (marks : BTreeSet (RunNo × ℕ)) : Type 0 where
   pub only : (v : Version) → IsTrue (is_marked marks v) → Contains listed v × P v
   pub each : (v : Version) → Contains listed v → P v → IsTrue (is_marked marks v)
-
--- some ancestor's location was written by run m
-pub record IsTouched (h : History) (m : ℕ) (v : Version) : Type 0 where
-  pub ancestor : Version
-  pub reached : Ancestor h v ancestor
-  pub written : IsTrue (wrote h m ancestor)
-
--- some near version was stale when run k had ended
-pub record IsCarried (h : History) (k : ℕ) (v : Version) : Type 0 where
-  pub near : Version
-  pub reached : Near h v near
-  pub stale : Stale h k near

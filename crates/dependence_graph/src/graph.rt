@@ -2,14 +2,15 @@
 ghost use Rattle.std.specs.Prelude.{◌≡◌, ℕ, ◌-◌, ◌<◌, ◌||◌, [], IfOk, OnOk, length, take};
 ghost use Rattle.std.specs.List.{list_any};
 ghost use Rattle.trace_events.specs.declared.version.Version.{Version};
-ghost use Rattle.trace_events.specs.History.{made, made_upto, wrote};
+ghost use Rattle.trace_events.specs.History.{made, made_upto};
 ghost use Rattle.trace_events.specs.Staleness.{Stale};
 ghost use Rattle.trace_events.specs.Lawful.{AllLawful};
 ghost use Rattle.trace_events.specs.Why.{why_of};
 ghost use Rattle.dependence_graph.specs.Answer.{answer_of};
-ghost use Rattle.dependence_graph.specs.Marks.{carries, is_marked, touches, IsCarried, IsExact, IsTouched, MarksExactly, MarksIf};
+ghost use Rattle.dependence_graph.specs.Marks.{carries, is_marked, IsExact, MarksExactly, MarksIf};
+ghost use Rattle.version_store.specs.Dependents.{IsCarried};
 
-use crate::marks::{is_marked, mark_all, mark_if};
+use crate::marks::{is_marked, mark_all, mark_if, mark_listed};
 use crate::why::{Why, find_why};
 use flow_base::{Names, NoMemory, RunNo};
 use std::alloc::Global;
@@ -33,8 +34,8 @@ impl Graph {
         }
     }
 
-    /// Goes on from the stale versions before the last run to those after it, in one pass over the versions and what each
-    /// directly rests on.
+    /// Goes on from the stale versions before the last run to those after it: what the run touched, and those of its own
+    /// versions that directly rest on a stale one.
     pub fn after_run(&mut self, alloc: Global, versions: &Versions) -> Result<(), NoMemory>
         requires some { 0 < length versions.now }
         requires before { IsExact (take (length versions.now - 1) versions.now) self.old.stale }
@@ -79,75 +80,10 @@ pub fn pass_run(
 
     ensures { OnOk result (MarksExactly (made_upto versions.now run.0) (Stale versions.now run.0) stale.new) }
 {
-    let touched = touched_by(alloc, versions, run)?;
     let fresh = carried_into(alloc, versions, run, stale)?;
-    mark_all(stale, touched)?;
+    mark_listed(stale, versions.touched(run))?;
     mark_all(stale, fresh)?;
     Ok(())
-}
-
-// The versions of the runs before `writer` with an ancestor whose location it wrote.
-fn touched_by(
-    alloc: Global,
-    versions: &Versions,
-    writer: RunNo,
-) -> Result<BTreeSet<(RunNo, u64)>, NoMemory>
-    requires lawful { AllLawful versions.now }
-    requires first { 0 < writer.0 }
-
-    ensures { IfOk result (λ marks. MarksExactly (made_upto versions.now (writer.0 - 1)) (IsTouched versions.now writer.0) marks) }
-{
-    let mut touched = BTreeSet::new(alloc);
-    for run in 1..writer.0 {
-        touch_run(versions, writer, RunNo(run), &mut touched)?;
-    }
-    Ok(touched)
-}
-
-// Goes on to the versions of one more run.
-fn touch_run(
-    versions: &Versions,
-    writer: RunNo,
-    run: RunNo,
-    touched: &mut BTreeSet<(RunNo, u64)>,
-) -> Result<(), NoMemory>
-    requires lawful { AllLawful versions.now }
-    requires first { 0 < run.0 }
-    requires before { MarksExactly (made_upto versions.now (run.0 - 1)) (IsTouched versions.now writer.0) touched.old }
-
-    ensures { OnOk result (MarksExactly (made_upto versions.now run.0) (IsTouched versions.now writer.0) touched.new) }
-{
-    for write in versions.writes(run) {
-        touch_write(versions, writer, run, write.place, touched)?;
-    }
-    Ok(())
-}
-
-fn touch_write(
-    versions: &Versions,
-    writer: RunNo,
-    run: RunNo,
-    place: u64,
-    touched: &mut BTreeSet<(RunNo, u64)>,
-) -> Result<(), NoMemory>
-    ensures { OnOk result (MarksIf (touches versions.now writer.0 touched.old (Version.Written run place)) touched.old touched.new (Version.Written run place)) }
-{
-    let version = Version::Written(run, place);
-    let hit = is_touched(versions, writer, touched, versions.deps(&version));
-    mark_if(touched, run, place, hit)
-}
-
-// Whether a run wrote the location of one of the versions, or one of them is marked.
-fn is_touched(
-    versions: &Versions,
-    writer: RunNo,
-    touched: &BTreeSet<(RunNo, u64)>,
-    deps: &[Version],
-) -> bool
-    ensures { result ≡ list_any (λ u. wrote versions.now writer.0 u || is_marked touched.now u) deps.now }
-{
-    deps.iter()
-        .any(|u| versions.wrote(writer, u) || is_marked(touched, u))
 }
 
 // The versions of a run with a near version that was stale before it.

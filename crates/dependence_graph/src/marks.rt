@@ -1,7 +1,7 @@
 // Sets of versions that runs wrote, each as its run and its place.
 ghost use Rattle.std.specs.Prelude.{◌≡◌, OnOk};
 ghost use Rattle.trace_events.specs.declared.version.Version.{Version};
-ghost use Rattle.dependence_graph.specs.Marks.{is_marked, AddsMark, AddsMarks, MarksIf};
+ghost use Rattle.dependence_graph.specs.Marks.{is_marked, AddsListed, AddsMark, AddsMarks, MarksIf};
 
 use flow_base::{NoMemory, RunNo};
 use std::collections::BTreeSet;
@@ -36,6 +36,19 @@ pub fn mark_if(
 {
     if test {
         mark(marks, run, place)?;
+    }
+    Ok(())
+}
+
+/// Marks all versions of a list.
+pub fn mark_listed(
+    marks: &mut BTreeSet<(RunNo, u64)>,
+    places: &[(RunNo, u64)],
+) -> Result<(), NoMemory>
+    ensures { OnOk result (AddsListed marks.old places.now marks.new) }
+{
+    for (run, place) in places {
+        mark(marks, *run, *place)?;
     }
     Ok(())
 }

@@ -105,7 +105,8 @@ fn first_overwrite(
 ) -> Option<RunNo>
     ensures { number_of result ≡ first_overwrite versions.now after.0 last.0 version.now }
 {
-    for before in after.0..last.0 {
+    let upto = last.0.min(versions.last_writer(version).0);
+    for before in after.0..upto {
         if versions.wrote(RunNo(before + 1), version) {
             return Some(RunNo(before + 1));
         }

@@ -27,8 +27,8 @@ use Rattle.trace_events.proofs.Reading.{each-append, each-flat, each-reverse, ea
 use Rattle.trace_events.proofs.StaleTest.{stale_within_true, true_stale_within}
 use Rattle.trace_events.proofs.StepLaw.{stale_own}
 use Rattle.version_store.proofs.Extension.{current-append, writes_of-append}
-use Rattle.dependence_graph.proofs.Creation.{run_of-made}
-use Rattle.dependence_graph.proofs.Extension.{stale_to}
+use Rattle.version_store.proofs.Creation.{run_of-made}
+use Rattle.version_store.proofs.SameRuns.{stale_to}
 use Rattle.kernel_core.specs.Clean.{HasNoStaleUse, LeavesNoStale, history_after}
 
 -- ---- what was seen of the time before the run was read by a start use

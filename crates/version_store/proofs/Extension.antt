@@ -32,7 +32,7 @@ module _ (h xs : History) where
   version_seen-append n (Before l) le = current-append (n - 1) l le
   version_seen-append n (Own i) le = refl
 
-  versions_seen-append : (n : ℕ) (ss : List Seen) → n - 1 ≤ length h → map (version_seen (h ++ xs) n) ss ≡ map (version_seen h n) ss
+  pub versions_seen-append : (n : ℕ) (ss : List Seen) → n - 1 ≤ length h → map (version_seen (h ++ xs) n) ss ≡ map (version_seen h n) ss
   versions_seen-append n [] le = refl
   versions_seen-append n (s ∷ ss) le =
       ap (λ v. v ∷ map (version_seen (h ++ xs) n) ss) (version_seen-append n s le) ∙ ap (λ vs. version_seen h n s ∷ vs) (versions_seen-append n ss le)

@@ -1,3 +1,13 @@
 pub mod Extension
 pub mod Numbers
 pub mod Current
+pub mod Lawful
+pub mod Creation
+pub mod SameRuns
+pub mod Recurrence
+pub mod Located
+pub mod Following
+pub mod PlaceSets
+pub mod Held
+pub mod StaysKept
+pub mod Reaching

@@ -1,4 +1,4 @@
--- Numbers of locations, by which they are looked up. Different locations may have the same number.
+-- Numbers of locations and of versions, by which they are looked up. Different ones may have the same number.
 use Rattle.std.specs.Prelude.{ℕ, ◌+◌, ◌*◌, ◌%◌, List, unsigned_abs}
 use Rattle.std.specs.List.{fold}
 use Rattle.flow_base.specs.declared.key.Key.{Key, fold-Key}
@@ -6,6 +6,8 @@ use Rattle.flow_base.specs.declared.key.Key.TheOpen as key
 use Rattle.flow_base.specs.declared.key.Key.TheOpen.{Key-F}
 use Rattle.flow_base.specs.declared.loc.Loc.{Loc}
 use Rattle.flow_base.specs.declared.loc.Loc.TheVariants.{Name, Attr, Item, Present, Shape}
+use Rattle.trace_events.specs.declared.version.Version.{Version}
+use Rattle.trace_events.specs.declared.version.Version.TheVariants.{Empty, Written}
 
 -- modulo a prime below 2 to the 32nd
 abbrev pub mix : ℕ → ℕ → ℕ
@@ -30,3 +32,7 @@ hash_loc (Attr o s) = mix (mix 2 o.0) s.0
 hash_loc (Item o k) = mix (mix 3 o.0) (hash_key k)
 hash_loc (Present o k) = mix (mix 4 o.0) (hash_key k)
 hash_loc (Shape o) = mix 5 o.0
+
+abbrev pub hash_version : Version → ℕ
+hash_version (Empty l) = hash_loc l
+hash_version (Written run place) = mix (mix 6 run.0) place

@@ -1,3 +1,4 @@
 pub mod Kept
 pub mod Hash
 pub mod Table
+pub mod Dependents

@@ -1,8 +1,9 @@
-// Numbers of locations, by which they are looked up.
+// Numbers of locations and of versions, by which they are looked up.
 ghost use Rattle.std.specs.Prelude.{◌≡◌, ◌<◌, map};
-ghost use Rattle.version_store.specs.Hash.{hash_key, hash_loc, mix, mix_all};
+ghost use Rattle.version_store.specs.Hash.{hash_key, hash_loc, hash_version, mix, mix_all};
 
 use flow_base::{Key, Loc};
+use trace_events::Version;
 
 fn mix(m: u64, n: u64) -> u64
     ensures { result ≡ mix m n }
@@ -54,5 +55,15 @@ pub fn hash_loc(loc: &Loc) -> u64
         Loc::Item(object, key) => mix(mix(3, object.0), hash_key(key)),
         Loc::Present(object, key) => mix(mix(4, object.0), hash_key(key)),
         Loc::Shape(object) => mix(5, object.0),
+    }
+}
+
+/// The number of a version. It is the same for the same version.
+pub fn hash_version(version: &Version) -> u64
+    ensures { result ≡ hash_version version.now }
+{
+    match version {
+        Version::Empty(location) => hash_loc(location),
+        Version::Written(run, place) => mix(mix(6, run.0), *place),
     }
 }

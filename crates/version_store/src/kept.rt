@@ -93,12 +93,8 @@ impl RunDependences {
     }
 }
 
-/// Keeps what the versions of one run more rest on, after those of the first `count` runs.
-pub fn keep(
-    kept: &mut Vec<RunDependences>,
-    count: usize,
-    found: RunDependences,
-) -> Result<(), NoMemory>
+/// Keeps one item more after the first `count`.
+pub fn keep<T: Drop>(kept: &mut Vec<T>, count: usize, found: T) -> Result<(), NoMemory>
     ensures ok { OnOk result (kept.new.items ≡ take count kept.old.items ++ found ∷ []) }
     ensures err { OnErr result (kept.new.items ≡ take count kept.old.items) }
 {

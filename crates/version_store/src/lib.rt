@@ -1,10 +1,13 @@
 //! The versions that the runs of a session wrote, with what each one directly rests on.
 #![tactic(auto)]
 
+mod dependents;
+mod followers;
 mod hash;
 mod kept;
 mod latest;
 mod locations;
+mod runs;
 mod store;
 #[cfg(test)]
 mod tests;

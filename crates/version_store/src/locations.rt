@@ -59,7 +59,7 @@ impl Bucket {
 }
 
 /// Whether two locations are the same.
-fn same(a: &Loc, b: &Loc) -> bool
+pub fn same(a: &Loc, b: &Loc) -> bool
     ensures { result ≡ loc_eq a.now b.now }
 {
     same_loc(a, b)

@@ -1,45 +1,47 @@
 // The versions of a session.
-ghost use Rattle.std.specs.Prelude.{◌≡◌, ◌+◌, ◌^◌, ◌<◌, [], ◌∷◌, ◌++◌, IfOk, MatchOption, OnErr, OnOk, length, map};
+ghost use Rattle.std.specs.Prelude.{◌≡◌, ◌⊎◌, ℕ, ◌+◌, ◌^◌, ◌<◌, ◌≤◌, [], ◌∷◌, ◌++◌, IfOk, IsTrue, MatchOption, OnErr, OnOk, length, map};
 ghost use Rattle.std.specs.Option.{option_copied};
 ghost use Rattle.trace_events.specs.History.{current, deps, location_of, version_seen, writes_of, wrote};
 ghost use Rattle.trace_events.specs.Lawful.{AllLawful, IsAscendingFrom};
 ghost use Rattle.trace_events.specs.declared.version.Version.{Version};
+ghost use Rattle.version_store.specs.Dependents.{Touches};
 ghost use Rattle.version_store.specs.Kept.{resolved};
 
-use crate::kept::{Dependences, RunDependences, keep, kept_at};
+use crate::followers::{Followers, follow_run, keep_followed};
+use crate::kept::{Dependences, RunDependences};
 use crate::latest::{Latest, latest_at, make_room, settle};
 use crate::locations::Locations;
-use crate::within::push_within;
+use crate::runs::Runs;
 use flow_base::{Loc, NoMemory, RunNo};
 use std::alloc::Global;
 use std::marker::Model;
-use trace_events::{Seen, Summary, Version, Write, find_write, has_location};
+use trace_events::{Seen, Summary, Version, Write};
 
 /// What each run of a session did, run 1 first. Contracts see the list of what is kept of the runs. What a version rests
-/// on is found once, when its run is added.
+/// on, and what a run touches of the versions before it, is found once, when the run is added.
 #[derive(Drop)]
 pub struct Versions {
     alloc: Global,
-    runs: Vec<Summary>,
-    kept: Vec<RunDependences>,
+    runs: Runs,
     locations: Locations,
     latest: Vec<Latest>,
+    followers: Followers,
 }
 
 impl Model for Versions {
     ghost use Rattle.std.specs.Coded.{codes};
     ghost use Rattle.flow_base.specs.contracts.key.Key as key;
     ghost use Rattle.trace_events.specs.History.{History};
-    ghost use Rattle.version_store.specs.Kept.{IsKept};
+    ghost use Rattle.version_store.specs.Dependents.{IsFollowed};
     ghost use Rattle.version_store.specs.Table.{IsCurrent};
 
     ghost Value = { History };
 
     ghost coded = { Prim.hlevel (codes, key.the_row.coded) };
 
-    ghost view = { λ v. v.runs.items };
+    ghost view = { λ v. v.runs };
 
-    ghost invariant = { λ v. IsKept v.runs.items v.kept.items × IsCurrent v.runs.items v.locations v.latest.items };
+    ghost invariant = { λ v. IsCurrent v.runs v.locations v.latest.items × IsFollowed v.runs v.followers.index v.followers.held.items v.followers.touched.items };
 }
 
 impl Versions {
@@ -48,10 +50,10 @@ impl Versions {
     {
         Versions {
             alloc,
-            runs: Vec::new(alloc),
-            kept: Vec::new(alloc),
+            runs: Runs::new(alloc),
             locations: Locations::new(alloc),
             latest: Vec::new(alloc),
+            followers: Followers::new(alloc),
         }
     }
 
@@ -69,13 +71,7 @@ impl Versions {
         ensures writes { result.now ≡ writes_of self.now run.0 }
         ensures lawful { IsAscendingFrom 0 result.now }
     {
-        if run.0 == 0 {
-            return &[];
-        }
-        match self.runs.get(run.0 as usize - 1) {
-            Some(summary) => summary.writes(),
-            None => &[],
-        }
+        self.runs.writes(run)
     }
 
     /// The version of a location now, if a run wrote it.
@@ -85,6 +81,20 @@ impl Versions {
         match self.locations.find(loc) {
             Some(number) => latest_at(self.latest.as_slice(), number),
             None => None,
+        }
+    }
+
+    /// The last run that wrote the location of a version, or run 0 where none did. Takes no time that grows with the runs.
+    pub fn last_writer(&self, v: &Version) -> RunNo
+        ensures writer { (result.0 ≡ 0) ⊎ IsTrue (wrote self.now result.0 v.now) }
+        ensures last { (m : ℕ) → IsTrue (wrote self.now m v.now) → m ≤ result.0 }
+    {
+        match self.location(v) {
+            Some(location) => match self.current(location) {
+                Some((run, _)) => run,
+                None => RunNo(0),
+            },
+            None => RunNo(0),
         }
     }
 
@@ -133,11 +143,29 @@ impl Versions {
         ensures err { OnErr result (self.new ≡ self.old) }
     {
         let found = self.resolve(run, s.writes())?;
+        let followed = follow_run(
+            self.alloc,
+            &self.runs,
+            &self.followers,
+            &self.locations,
+            self.latest.as_slice(),
+            run,
+            &s,
+            &found,
+        )?;
         make_room(&mut self.locations, &mut self.latest, s.writes())?;
-        keep(&mut self.kept, self.runs.len(), found)?;
-        self.runs.reserve(1)?;
-        settle(&self.locations, run, &mut self.latest, s.writes());
-        push_within(&mut self.runs, s);
+        keep_followed(
+            self.alloc,
+            &mut self.followers,
+            self.runs.len(),
+            run,
+            &s,
+            &found,
+            followed,
+        )?;
+        self.runs.add(s, found)?;
+        let writes = self.runs.writes(run);
+        settle(&self.locations, run, &mut self.latest, writes);
         Ok(())
     }
 
@@ -145,42 +173,37 @@ impl Versions {
     pub fn deps(&self, v: &Version) -> &[Version]
         ensures { result.now ≡ deps self.now v.now }
     {
-        let Version::Written(run, place) = v else {
+        self.runs.deps(v)
+    }
+
+    /// What a run touched: versions of earlier runs with an ancestor whose location it wrote. Those that were stale before
+    /// may be left out, and a version may stand there more than once. Run 0, and a run to come, touched nothing.
+    pub fn touched(&self, run: RunNo) -> &[(RunNo, u64)]
+        ensures { Touches self.now run.0 result.now }
+    {
+        if run.0 == 0 {
             return &[];
-        };
-        let Some(index) = find_write(self.writes(*run), *place) else {
+        }
+        if run.0 > self.runs.len() as u64 {
             return &[];
-        };
-        kept_at(
-            self.kept.as_slice(),
-            (run.0 as usize).saturating_sub(1),
-            index,
-        )
+        }
+        match self.followers.touched.get(run.0 as usize - 1) {
+            Some(places) => places.as_slice(),
+            None => &[],
+        }
     }
 
     /// The location of a version, if there is such a version.
     pub fn location<'a>(&'a self, v: &'a Version) -> Option<&'a Loc>
         ensures { option_copied result ≡ location_of self.now v.now }
     {
-        match v {
-            Version::Empty(location) => Some(location),
-            Version::Written(run, place) => {
-                let writes = self.writes(*run);
-                match find_write(writes, *place) {
-                    Some(index) => Some(&writes[index].location),
-                    None => None,
-                }
-            }
-        }
+        self.runs.location(v)
     }
 
     /// Whether a run wrote the location of a version.
     pub fn wrote(&self, run: RunNo, v: &Version) -> bool
         ensures { result ≡ wrote self.now run.0 v.now }
     {
-        match self.location(v) {
-            Some(location) => has_location(self.writes(run), location),
-            None => false,
-        }
+        self.runs.wrote(run, v)
     }
 }

@@ -113,3 +113,38 @@ fn writes_of_runs(rt: HostRuntime) -> Result<(), Fail> {
     assert!(rt; saw);
     Ok(())
 }
+
+// The number of listed versions, and whether these two are listed.
+fn lists(places: &[(RunNo, u64)], wanted: &[(u64, u64)]) -> bool {
+    places.len() == wanted.len()
+        && wanted
+            .iter()
+            .all(|w| places.iter().any(|p| p.0.0 == w.0 && p.1 == w.1))
+}
+
+#[test]
+fn touched_versions(rt: HostRuntime) -> Result<(), Fail> {
+    let a = rt.alloc();
+    let mut versions = session(a)?;
+    for (run, wanted) in [(0, 0), (1, 0), (2, 0), (3, 0), (4, 2), (5, 0)] {
+        assert_eq!(rt; versions.touched(RunNo(run)).len(), wanted, "{run}");
+    }
+    assert!(rt; lists(versions.touched(RunNo(4)), &[(3, 2), (2, 2)]));
+
+    // run 5 makes w of x and then overwrites x; run 6 touches that w, and makes x of itself
+    let mut events = line(a, Some(0), 3)?;
+    for event in line(a, None, 0)? {
+        events.push(event)?;
+    }
+    add(a, &mut versions, events.as_slice())?;
+    assert!(rt; versions.touched(RunNo(5)).is_empty());
+    let again = line(a, Some(0), 0)?;
+    add(a, &mut versions, again.as_slice())?;
+    assert!(rt; lists(versions.touched(RunNo(6)), &[(5, 2)]));
+
+    // and then x is touched, and no other
+    let next = line(a, None, 0)?;
+    add(a, &mut versions, next.as_slice())?;
+    assert!(rt; lists(versions.touched(RunNo(7)), &[(6, 2)]));
+    Ok(())
+}

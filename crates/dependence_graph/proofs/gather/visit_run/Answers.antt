@@ -1,7 +1,7 @@
 use Rattle.std.proofs.Common.{◌-◌, ap, arith, get_or, sym}
 use Rattle.trace_events.specs.declared.summary.Write.{Write}
 use Rattle.dependence_graph.proofs.Gathering.{gathered_item}
-use Rattle.dependence_graph.proofs.Lawful.{ascends}
+use Rattle.version_store.proofs.Lawful.{ascends}
 use Rattle.dependence_graph.proofs.gather.visit_run.Goals as goal
 
 pub loop-left-preserved : goal.loop-left-preserved

@@ -1,5 +1,5 @@
 use Rattle.std.proofs.Common.{refl}
-use Rattle.dependence_graph.proofs.Lawful.{ascends}
+use Rattle.version_store.proofs.Lawful.{ascends}
 use Rattle.dependence_graph.proofs.Passes.{carried_item}
 use Rattle.dependence_graph.proofs.graph.carried_into.Goals as goal
 

@@ -1,6 +1,7 @@
 use Rattle.std.proofs.Common.{◌-◌, take}
 use Rattle.trace_events.specs.History.{made}
-use Rattle.dependence_graph.specs.Marks.{IsCarried, MarksExactly}
+use Rattle.version_store.specs.Dependents.{IsCarried}
+use Rattle.dependence_graph.specs.Marks.{MarksExactly}
 use Rattle.dependence_graph.proofs.graph.carried_into.Given as goal
 
 abbrev pub invariant-loop-write : goal.invariant-loop-write

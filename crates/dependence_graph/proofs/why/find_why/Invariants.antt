@@ -1,6 +1,5 @@
 use Rattle.std.proofs.Common.{◌≡◌, length}
 use Rattle.trace_events.specs.History.{run_of}
-use Rattle.trace_events.specs.Lawful.{AllLawful}
 use Rattle.trace_events.specs.Why.{why_of}
 use Rattle.dependence_graph.proofs.why.find_why.Given as goal
 

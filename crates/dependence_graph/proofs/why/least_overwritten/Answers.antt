@@ -1,4 +1,4 @@
-use Rattle.dependence_graph.proofs.Lawful.{ascends}
+use Rattle.version_store.proofs.Lawful.{ascends}
 use Rattle.dependence_graph.proofs.WhySteps.{overwritten_result}
 use Rattle.dependence_graph.proofs.why.least_overwritten.Goals as goal
 

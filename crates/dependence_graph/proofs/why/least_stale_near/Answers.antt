@@ -1,4 +1,4 @@
-use Rattle.dependence_graph.proofs.Lawful.{ascends}
+use Rattle.version_store.proofs.Lawful.{ascends}
 use Rattle.dependence_graph.proofs.WhySteps.{near_result}
 use Rattle.dependence_graph.proofs.why.least_stale_near.Goals as goal
 

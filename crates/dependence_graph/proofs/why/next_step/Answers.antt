@@ -1,6 +1,6 @@
 use Rattle.std.proofs.Common.{◌∙◌, ap, sym}
 use Rattle.dependence_graph.specs.Answer.{answer_of}
-use Rattle.dependence_graph.proofs.Lawful.{ascends}
+use Rattle.version_store.proofs.Lawful.{ascends}
 use Rattle.dependence_graph.proofs.WhySteps.{near_run, why_first, why_next}
 use Rattle.dependence_graph.proofs.why.next_step.Goals as goal
 

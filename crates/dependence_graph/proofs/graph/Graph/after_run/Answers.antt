@@ -3,7 +3,7 @@ use Rattle.trace_events.specs.History.{made_upto}
 use Rattle.trace_events.specs.Staleness.{Stale}
 use Rattle.dependence_graph.specs.Marks.{MarksExactly}
 use Rattle.dependence_graph.proofs.Exactness.{exact_after, pass_from_exact}
-use Rattle.dependence_graph.proofs.Lawful.{ascends}
+use Rattle.version_store.proofs.Lawful.{ascends}
 use Rattle.dependence_graph.proofs.graph.Graph.after_run.Goals as goal
 
 pub pass_run-requires-clause-before : goal.pass_run-requires-clause-before

@@ -1,5 +1,5 @@
 -- Touched and carried versions, by what a version directly rests on; and how stale versions come of them.
-use Rattle.std.proofs.Common.{◌≡◌, ℕ, suc, ◌-◌, ◌<◌, ◌≤◌, ◌⊎◌, inl, inr, subst, refl, ⊎_elim, arith}
+use Rattle.std.proofs.Common.{◌≡◌, ℕ, suc, ◌-◌, ◌<◌, ◌≤◌, ◌⊎◌, inl, inr, subst, ⊎_elim, arith}
 use Rattle.std.specs.Prelude.{IsTrue}
 use Rattle.std.specs.List.{Contains}
 use Rattle.std.proofs.lemmas.Bool.{cases_lt}
@@ -7,7 +7,7 @@ use Rattle.trace_events.specs.declared.version.Version.{Version}
 use Rattle.trace_events.specs.History.{History, deps, made, run_of, wrote}
 use Rattle.trace_events.specs.Staleness.{Ancestor, direct, further, Near, earlier, within, Stale, overwritten, carried}
 use Rattle.trace_events.proofs.Reached.{made_deps}
-use Rattle.dependence_graph.specs.Marks.{IsTouched, IsCarried}
+use Rattle.version_store.specs.Dependents.{IsTouched, IsCarried}
 
 module _ (h : History) where
   -- ---- what has ancestors was made

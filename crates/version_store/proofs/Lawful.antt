@@ -1,8 +1,8 @@
 -- In a history whose runs are lawful the places of each run ascend.
-use Rattle.std.proofs.Common.{◌≡◌, ℕ, zero, suc, ◌<◌, ◌≤◌, [], get_or, length, sym, subst, ⊎_elim}
+use Rattle.std.proofs.Common.{zero, suc, ◌<◌, ◌≤◌, [], length, sym, subst, ⊎_elim}
 use Rattle.std.proofs.lemmas.Bool.{cases_lt}
 use Rattle.std.proofs.lemmas.List.{get_or_past}
-use Rattle.trace_events.specs.Lawful.{AllLawful, IsAscendingFrom, IsLawful}
+use Rattle.trace_events.specs.Lawful.{AllLawful, IsLawful}
 use Rattle.trace_events.specs.Trace.{Summary}
 use Rattle.trace_events.specs.History.{History}
 use Rattle.trace_events.proofs.Ancestors.{IsAscending}

@@ -1,14 +1,13 @@
 -- What a version rests on came about before it: it stands before it in the list of the versions.
-use Rattle.std.proofs.Common.{◌≡◌, ◌≢◌, ℕ, zero, suc, ◌+◌, ◌-◌, ◌<◌, ◌≤◌, ◌⊎◌, List, [], ◌∷◌, ◌++◌, length, map, min, take, get_or, refl, sym, subst, ap, ◌∙◌, arith, ⊎_elim}
+use Rattle.std.proofs.Common.{◌≡◌, ℕ, zero, suc, ◌+◌, ◌-◌, ◌<◌, ◌≤◌, List, [], ◌∷◌, ◌++◌, length, map, min, take, get_or, refl, sym, subst, ap, ◌∙◌, arith, ⊎_elim}
 use Rattle.std.specs.List.{Contains}
 use Rattle.std.proofs.lemmas.Bool.{cases_lt}
 use Rattle.std.proofs.lemmas.List.{get_or-map, get_or-take, take_more, take_all}
-use Rattle.std.proofs.lemmas.List.Elements.{Contains-append_left, Contains-append_right, Contains-append_cases, Contains-push_cases}
+use Rattle.std.proofs.lemmas.List.Elements.{Contains-append_left, Contains-append_right, Contains-append_cases}
 use Rattle.std.proofs.Math.Nat.{eq-or-lt_of_le}
 use Rattle.std.proofs.Math.ListN.{length-take}
 use Rattle.std.proofs.Common.{append_assoc}
 use Rattle.trace_events.specs.declared.version.Version.{Version}
-use Rattle.trace_events.specs.declared.version.Version.TheVariants.{Empty, Written as at_write}
 use Rattle.trace_events.specs.declared.summary.Write.{Write as Written}
 use Rattle.trace_events.specs.History.{History, deps, made, made_upto, place_of, run_of, version_at, writes_of, IsOlder}
 use Rattle.trace_events.proofs.Ancestors.{IsAscending, dep_older}

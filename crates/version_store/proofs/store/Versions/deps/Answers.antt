@@ -1,7 +1,0 @@
-use Rattle.version_store.proofs.Extension.{found_deps}
-use Rattle.version_store.proofs.store.Versions.deps.Goals as goal
-
-pub returns : goal.returns
-returns c = found_deps c.self.inside.runs.items c.args.self.now c.self.inside.kept.items c.as_slice.result.now c.in-Written.run' c.in-Written.place c.in-Some.index
-    c.saturating_sub.result c.writes.result.now c.args.v.now c.kept_at.result.now
-    c.self.invariant.0 c.self.view_is c.in-Written.is c.writes.ensures.writes c.in-Some.ensures c.saturating_sub.ensures c.as_slice.ensures.value c.kept_at.ensures
