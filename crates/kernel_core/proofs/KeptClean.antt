@@ -137,7 +137,7 @@ module _ (h : History) (es : List Event) (ascend : IsAscending h) (ascend_after 
       ∙ ap (λ (s : Summary). s.writes) (get_or_push h (summary_of es) (record { reads = []; writes = [] }) (length h) refl)
 
   -- a location whose version was not stale before the run
-  start_stale : (l : Loc) → is_stale h (length h) (current h (length h) l) ≡ false → Stale (history_after h es) (length h) (current (history_after h es) (length h) l) → ⊥
+  start_stale : (l : Loc) → ¬ Stale h (length h) (current h (length h) l) → Stale (history_after h es) (length h) (current (history_after h es) (length h) l) → ⊥
   start_stale l fresh st =
       let v : Version = current h (length h) l in
       let bound : run_of v ≤ length h = run_of-current h (length h) l in
@@ -145,7 +145,7 @@ module _ (h : History) (es : List Event) (ascend : IsAscending h) (ascend_after 
       let was : Stale h (length h) v =
       stale_to (length h) (history_after h es) h (λ m le. writes_of-append h (summary_of es ∷ []) m le) ascend_after (omega arith) bound
       (subst (λ (x : Version). Stale (history_after h es) (length h) x) same st) in
-      false≢true (sym fresh ∙ true_stale_within h ascend (run_of v + 1) (omega arith) was)
+      fresh was
 
   seen_stale : (s : Seen) → IsBacked (summary_of es).reads s → run_of (version_seen (history_after h es) (length h + 1) s) < length h + 1
       → Stale (history_after h es) (length h) (version_seen (history_after h es) (length h + 1) s) → ⊥
@@ -178,9 +178,8 @@ module _ (h : History) (es : List Event) (ascend : IsAscending h) (ascend_after 
 
   -- no version that the run wrote is stale when it ends
   pub leaves_no_stale : LeavesNoStale h es
-  leaves_no_stale v c = false_from_ne_true (is_stale (history_after h es) (length h + 1) v) (λ t.
+  leaves_no_stale v c st =
       let run : run_of v ≡ length h + 1 = run_of-made (history_after h es) (length h + 1) v c in
-      let st = stale_within_true (history_after h es) ascend_after (run_of v + 1) (length h + 1) v t in
       let near = stale_own (history_after h es) (length h + 1) run st in
       let last : (length h + 1) - 1 ≡ length h = omega arith in
-      near_stale near.1 run (subst (λ (n : ℕ). Stale (history_after h es) n near.0) last near.2))
+      near_stale near.1 run (subst (λ (n : ℕ). Stale (history_after h es) n near.0) last near.2)
