@@ -190,7 +190,9 @@ const REPLIES: [&str; 6] = [
 ];
 
 // How many whole lines these bytes have.
-fn whole_lines(bytes: &[u8]) -> usize {
+fn whole_lines(bytes: &[u8]) -> usize
+    ensures { result ≤ 6 }
+{
     bytes.iter().filter(|byte| **byte == b'\n').count().min(6)
 }
 
@@ -222,56 +224,48 @@ fn input_has_a_limit(rt: HostRuntime) -> Result<(), Fail> {
 fn each_call_may_fail(rt: HostRuntime) -> Result<(), Fail> {
     let alloc = rt.alloc();
     let log = joined(alloc, &LINES)?;
-    let most = 20;
-    let mut given = 0;
-    for k in 1..100 {
-        let answered = whole_lines(&log[..given]);
-        answers_pieces(
-            &rt,
-            &log,
-            most,
-            (k, 0),
-            Status::ReadFault,
-            &REPLIES[..answered],
-        )?;
-        if given == log.len() {
-            break;
-        }
-        given = log.len().min(given + most);
+    for k in 0..=log.len().div_ceil(20) {
+        let given = log.len().min(20 * k.min(1_000));
+        let answered = &REPLIES[..whole_lines(&log[..given])];
+        let faults = (k as u64 + 1, 0);
+        answers_pieces(&rt, &log, 20, faults, Status::ReadFault, answered)?;
     }
-    for k in 1..7 {
-        let written = &REPLIES[..k - 1];
-        answers(&rt, &log, (0, k as u64), Status::WriteFault, written)?;
+    for k in 0..6 {
+        let faults = (0, k as u64 + 1);
+        answers(&rt, &log, faults, Status::WriteFault, &REPLIES[..k])?;
     }
     Ok(())
 }
 
-// A log that is cut after each of its bytes: its whole lines are answered, and the rest of a line is no JSON, unless only
-// the line feed is missing.
+// The reply to a line that is cut before its end: it is no JSON, unless it lacks the line feed alone.
+fn reply_to_rest(cut: &[u8], answered: usize) -> &'static str {
+    if cut.is_empty() || cut.ends_with(b"\n") {
+        return "";
+    }
+    if cut.ends_with(b"}") {
+        return REPLIES.get(answered).copied().unwrap_or("");
+    }
+    JSON
+}
+
+// A log that is cut after each of its bytes: its whole lines are answered, and the rest of a line.
 #[test]
 fn a_log_may_be_cut(rt: HostRuntime) -> Result<(), Fail> {
     let alloc = rt.alloc();
     let log = joined(alloc, &LINES)?;
     for end in 0..=log.len() {
-        let cut = &log[..end];
-        let whole = whole_lines(cut);
-        let mut replies = joined(alloc, &REPLIES[..whole])?;
-        let is_whole = cut.is_empty() || cut.ends_with(b"\n");
-        let lacks_feed = cut.ends_with(b"}");
-        if lacks_feed && whole < 6 {
-            replies.extend_from_slice(REPLIES[whole].as_bytes())?;
-        }
-        if !is_whole && !lacks_feed {
-            replies.extend_from_slice(JSON.as_bytes())?;
-        }
-        let answered = str::from_utf8(&replies).unwrap_or("");
-        let refused = answered.contains("refused");
+        let cut = &log[..end.min(log.len())];
+        let answered = whole_lines(cut);
+        let whole = joined(alloc, &REPLIES[..answered])?;
+        let whole = str::from_utf8(&whole).unwrap_or("");
+        let rest = reply_to_rest(cut, answered);
+        let refused = whole.contains("refused") || rest.contains("refused");
         let status = if refused {
             Status::Refused
         } else {
             Status::Done
         };
-        answers(&rt, cut, (0, 0), status, &[answered])?;
+        answers(&rt, cut, (0, 0), status, &[whole, rest])?;
     }
     Ok(())
 }
