@@ -1,5 +1,5 @@
 -- Each answer of a reader comes always where its cause holds.
-use Rattle.std.proofs.Common.{◌≡◌, ◌≢◌, ◌⊎◌, ℕ, ◌+◌, ◌<◌, ◌≤◌, List, [], ◌∷◌, ◌++◌, ◌∙◌, length, true, false, Ok, Err, ap, sym, subst, refl, arith, length-append, inl, inr}
+use Rattle.std.proofs.Common.{◌≡◌, ◌≢◌, ◌⊎◌, ℕ, ◌<◌, List, [], ◌∷◌, ◌++◌, ◌∙◌, length, true, false, Ok, Err, ap, sym, subst, refl, arith, length-append, inl, inr}
 use Rattle.std.specs.declared.option.Option.{Option}
 use Rattle.std.specs.declared.result.Result.{Result}
 use Rattle.flow_base.specs.Lines.{HasNoEnd}

@@ -1,9 +1,8 @@
 -- A run none of whose start uses was stale leaves no stale version.
 use Rattle.std.proofs.Common.{◌≡◌, ℕ, zero, suc, ◌+◌, ◌-◌, ◌<◌, ◌≤◌, Bool, true, false, cond, List, [], ◌∷◌, ◌++◌, length, reverse, refl, sym, subst, ap, ◌∙◌, arith}
-use Rattle.std.specs.Prelude.{Option, Some, None, ◌==◌}
+use Rattle.std.specs.Prelude.{Some, ◌==◌}
 use Rattle.std.specs.List.{Contains, AllByRecursion, fold}
-use Rattle.std.proofs.lemmas.Bool.{false≢true, true≢false, false_from_ne_true}
-use Rattle.std.proofs.lemmas.List.{get_or_push, length-append}
+use Rattle.std.proofs.lemmas.List.{get_or_push}
 use Rattle.std.proofs.lemmas.List.Elements.{All-contains, All-from_recursion, Contains-append_left, Contains-push}
 use Rattle.flow_base.specs.declared.event.Event.{Event}
 use Rattle.flow_base.specs.declared.event.Event.TheVariants.{Use, Place, Write, Open, Close, CallIn, CallOut}
@@ -20,11 +19,9 @@ use Rattle.trace_events.specs.declared.summary.Write.{Write as Written}
 use Rattle.trace_events.specs.Trace.{Reading, Summary, all_uses, close, forget, gather, hand_out, seen_after, start, start_read, step, summary_of}
 use Rattle.trace_events.specs.History.{History, current, deps, run_of, uses_at, version_seen, write_at, writes_of}
 use Rattle.trace_events.specs.Staleness.{Near, earlier, within, Stale}
-use Rattle.trace_events.specs.Decided.{is_stale}
 use Rattle.trace_events.proofs.Ancestors.{IsAscending, run_of-current}
 use Rattle.trace_events.proofs.Lists.{no_member, Contains-map}
 use Rattle.trace_events.proofs.Reading.{each-append, each-flat, each-reverse, each-weaker}
-use Rattle.trace_events.proofs.StaleTest.{stale_within_true, true_stale_within}
 use Rattle.trace_events.proofs.StepLaw.{stale_own}
 use Rattle.version_store.proofs.Extension.{current-append, writes_of-append}
 use Rattle.dependence_graph.proofs.Creation.{run_of-made}

@@ -1,6 +1,6 @@
 -- The marks of sessions, computed.
 use Rattle.std.proofs.Common.{◌≡◌, ℕ, List, [], ◌∷◌, ◌++◌, ◌∙◌, refl, sym, subst, ap, arith}
-use Rattle.std.specs.Prelude.{Option, Some, None, codes}
+use Rattle.std.specs.Prelude.{Option, Some, codes}
 use Rattle.std.specs.FinMap as map
 use Rattle.std.specs.Cmp.{nat_cmp_total}
 use Rattle.std.specs.Cmp.Lexicographic.{nat_list_cmp_total}
@@ -14,7 +14,6 @@ use Rattle.trace_events.specs.Trace.{IsStartUse, summary_of}
 use Rattle.trace_events.specs.History.{run_of}
 use Rattle.kernel_core.specs.declared.accepted.Accepted.{Accepted}
 use Rattle.kernel_core.specs.declared.accepted.Accepted.TheVariants.{Edit, Run}
-use Rattle.kernel_core.specs.declared.form.Assign.{Assign}
 use Rattle.kernel_core.specs.declared.form.Atom.TheVariants.{Name, Number}
 use Rattle.kernel_core.specs.declared.run.End.TheVariants.{Done}
 use Rattle.kernel_core.specs.declared.state.Kept.{Kept}
