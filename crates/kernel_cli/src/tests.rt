@@ -2,6 +2,7 @@
 ghost use Rattle.std.specs.Prelude.{◌≤◌, None, IfOk, length};
 ghost use Rattle.flow_io.specs.Causes.{HasCause};
 
+use crate::law::{clean_log_law, stale_log_law};
 use crate::serve::{ipyflow, ipyflow_surely};
 use crate::status::Status;
 use crate::words::{Command, read_words};
@@ -207,7 +208,7 @@ fn pieces_make_no_difference(rt: HostRuntime) -> Result<(), Fail> {
     Ok(())
 }
 
-// One byte over the limit is too many.
+// One byte over the limit is too many. (`rt try` is too slow for this one.)
 #[test]
 fn input_has_a_limit(rt: HostRuntime) -> Result<(), Fail> {
     let alloc = rt.alloc();
@@ -274,6 +275,8 @@ fn a_log_may_be_cut(rt: HostRuntime) -> Result<(), Fail> {
 #[test]
 fn sure_sources_and_sinks(rt: HostRuntime) -> Result<(), Fail> {
     let alloc = rt.alloc();
+    clean_log_law();
+    stale_log_law();
     for (word, log, want) in [
         ("run", EDIT, Status::Done),
         ("run", RUN, Status::Refused),
