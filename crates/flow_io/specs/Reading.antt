@@ -20,9 +20,9 @@ IsFirstLine line bytes left now =
 abbrev pub IsAnswer : Result Line LineFault → List ℕ → Option (List ℕ) → Reader → Type 0
 IsAnswer (Ok (Text line)) bytes left now = (length line ≤ LINE_LIMIT) × IsFirstLine line bytes left now × (now.is_open ≡ true)
 IsAnswer (Ok TooLong) bytes left now = (line : List ℕ) × (LINE_LIMIT < length line) × IsFirstLine line bytes left now × (now.is_open ≡ true)
-IsAnswer (Ok End) bytes left now = (bytes ≡ []) × IsAtEnd left × (now.taken ≤ INPUT_LIMIT) × (now.is_open ≡ false)
-IsAnswer (Err Read) bytes left now = HasNoEnd bytes × (now.is_open ≡ false)
-IsAnswer (Err InputLimit) bytes left now = HasNoEnd bytes × (INPUT_LIMIT < now.taken) × (now.is_open ≡ false)
+IsAnswer (Ok End) bytes left now = (bytes ≡ []) × IsAtEnd left × (now.taken ≤ INPUT_LIMIT) × (now.is_open ≡ false) × (now.ended ≡ true)
+IsAnswer (Err Read) bytes left now = HasNoEnd bytes × (now.is_open ≡ false) × (now.ended ≡ false)
+IsAnswer (Err InputLimit) bytes left now = HasNoEnd bytes × (INPUT_LIMIT < now.taken) × (now.is_open ≡ false) × (now.ended ≡ false)
 IsAnswer (Err NoMemory) bytes left now = now.is_open ≡ false
 
 -- A call of `next_line`, in which the source gave these bytes.
@@ -36,3 +36,10 @@ abbrev pub IsLineOf : List ℕ → Line → Type 0
 IsLineOf line (Text bytes) = (bytes ≡ line) × (length line ≤ LINE_LIMIT)
 IsLineOf line TooLong = LINE_LIMIT < length line
 IsLineOf line End = ⊥
+
+-- the line is answered, unless memory is wanting
+abbrev pub AnswersLine : List ℕ → Result Line LineFault → Type 0
+AnswersLine line (Ok answer) = IsLineOf line answer
+AnswersLine line (Err Read) = ⊥
+AnswersLine line (Err InputLimit) = ⊥
+AnswersLine line (Err NoMemory) = Unit {0}

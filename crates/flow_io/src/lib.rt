@@ -3,6 +3,7 @@
 
 mod gathered;
 mod intake;
+mod law;
 mod line;
 mod memory;
 mod sink;
@@ -13,6 +14,7 @@ mod sure;
 mod tests;
 
 pub use flow_base::Bytes;
+pub use law::reading_law;
 pub use line::{Line, LineFault, LineReader};
 pub use memory::{MemSink, MemSource};
 pub use sink::{Sink, put};

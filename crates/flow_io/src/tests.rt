@@ -82,6 +82,7 @@ fn bytes_behind_a_line_are_held(rt: HostRuntime) -> Result<(), Fail> {
     let mut source = SureSource::new(alloc, b"a\nbc\n")?;
     let mut reader = LineReader::new(alloc)?;
     let first = reader.next_line(&mut source);
+    reading_law();
     assert_eq!(rt; word(alloc, first)?.as_str(), "[a]");
     assert_eq!(rt; reader.held(), 3);
     Ok(())

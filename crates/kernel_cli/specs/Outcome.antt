@@ -1,5 +1,5 @@
 -- What each status says of the source and the sink.
-use Rattle.std.specs.Prelude.{◌≡◌, ℕ, ◌<◌, ◌≤◌, List, [], ◌++◌, length, Bool, true, false, Option, Some, None, IfSome}
+use Rattle.std.specs.Prelude.{◌≡◌, ℕ, ◌<◌, ◌≤◌, ◌⊎◌, List, [], ◌++◌, length, nat_le, if◌then◌else◌, Bool, true, false, Option, Some, None, IfSome}
 use Rattle.std.specs.Io.KnownBytes.{prepend_known, append_known, IsAtEnd}
 use Rattle.flow_io.specs.Causes.{Rose}
 use Rattle.flow_io.specs.declared.TheConstants.{INPUT_LIMIT}
@@ -57,3 +57,23 @@ IsRunOutcome steps NoMemory source after sink now = WritesWhole steps source sin
 abbrev pub IsOutcome : Option Command → Status → Told → Told → Told → Told → Type 0
 IsOutcome None status source after sink now = (status ≡ Usage) × (after ≡ source) × (now ≡ sink)
 IsOutcome (Some (Run steps)) status source after sink now = IsRunOutcome steps status source after sink now
+
+-- ---- where nothing fails
+
+-- The status of an input, by its bytes alone.
+abbrev pub status_of : ℕ → List ℕ → Status
+status_of steps input = if nat_le (length input) INPUT_LIMIT then end_status (refuses steps input) else InputLimit
+
+abbrev pub IsStatusOf : ℕ → List ℕ → Status → Type 0
+IsStatusOf steps input status = (status ≡ status_of steps input) ⊎ (status ≡ NoMemory)
+
+-- Where neither count of faults rose, the status is that of the input, unless memory was wanting.
+abbrev pub IsComplete : Option Command → Status → Told → Told → Told → Told → Type 0
+IsComplete None status source after sink now = Unit {0}
+IsComplete (Some (Run steps)) status source after sink now =
+    IfSome source.bytes (λ input. ¬ Rose source.faults after.faults → ¬ Rose sink.faults now.faults → IsStatusOf steps input status)
+
+-- Over a source that never fails and gives these bytes, and a sink that never fails.
+abbrev pub IsSure : Option Command → List ℕ → Status → Type 0
+IsSure None input status = status ≡ Usage
+IsSure (Some (Run steps)) input status = IsStatusOf steps input status

@@ -1,6 +1,7 @@
 //! `ipyflow`: a notebook kernel whose answers are proved, over standard input and output.
 #![tactic(auto)]
 
+mod law;
 mod serve;
 mod status;
 #[cfg(test)]

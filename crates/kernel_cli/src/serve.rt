@@ -1,23 +1,27 @@
 // The loop from lines to replies.
-ghost use Rattle.std.specs.Prelude.{◌≡◌, ◌≤◌, ◌+◌, ◌∷◌, ◌++◌, ◌↔◌, ℕ, List, [], true, false, length, map, string_bytes, None, Ok, IfOk, OnOk, IsErrOf};
+ghost use Rattle.std.specs.Prelude.{◌≡◌, ◌≢◌, ◌≤◌, ◌+◌, ◌∷◌, ◌++◌, ◌↔◌, ℕ, List, [], true, false, length, map, string_bytes, None, Ok, IfOk, OnOk, IsErrOf};
 ghost use Rattle.std.specs.Io.KnownBytes.{IsAtEnd};
 ghost use Rattle.flow_io.specs.Causes.{Rose};
 ghost use Rattle.flow_wire.specs.Replied.{is_refusal};
 ghost use Rattle.kernel_cli.specs.Output.{line_answer, reply_line};
 ghost use Rattle.kernel_cli.specs.Turn.{Turns};
-ghost use Rattle.kernel_cli.specs.Outcome.{IsOutcome, IsRunOutcome, Told, end_status};
+ghost use Rattle.kernel_cli.specs.Outcome.{IsComplete, IsOutcome, IsRunOutcome, IsSure, Told, end_status};
+ghost use Rattle.kernel_cli.specs.Headline.{IsCovered};
 ghost use Rattle.kernel_cli.specs.Words.{command_of};
 ghost use Rattle.kernel_core.specs.declared.kernel.TheConstants.{STEPS_LIMIT};
 
 use crate::status::Status;
 use crate::words::{Command, read_words};
 use flow_base::{Bytes, NoMemory};
-use flow_io::{INPUT_LIMIT, LINE_LIMIT, Line, LineFault, LineReader, Sink, Source, put};
+use flow_io::{
+    INPUT_LIMIT, LINE_LIMIT, Line, LineFault, LineReader, Sink, Source, SureSink, SureSource, put,
+};
 use flow_wire::{BadAsk, EventKind, Reply, read_ask, write_reply};
-use kernel_core::Kernel;
+use kernel_core::{Kernel, clean_reply_law};
 use std::alloc::Global;
 
-/// Answers each line of the source at the sink, one reply line for each.
+/// Answers each line of the source at the sink, one reply line for each. A run that is answered `clean` used nothing
+/// outdated.
 pub fn ipyflow<S: Source, K: Sink>(
     alloc: Global,
     words: &[String],
@@ -31,11 +35,32 @@ pub fn ipyflow<S: Source, K: Sink>(
         (record { bytes = K.written sink.new; faults = K.faults sink.new }) }
     ensures usage { (result ≡ Status.Usage) ↔ (command_of (map string_bytes words.now) ≡ None) }
     ensures unused { result ≡ Status.Usage → (source.new ≡ source.old) × (sink.new ≡ sink.old) }
+    ensures complete { IsComplete (command_of (map string_bytes words.now)) result
+        (record { bytes = S.left source.old; faults = S.faults source.old })
+        (record { bytes = S.left source.new; faults = S.faults source.new })
+        (record { bytes = K.written sink.old; faults = K.faults sink.old })
+        (record { bytes = K.written sink.new; faults = K.faults sink.new }) }
+    ensures clean { IsCovered (command_of (map string_bytes words.now)) (S.left source.old) }
 {
+    clean_reply_law();
     match read_words(words) {
         Some(Command::Run { steps }) => serve(alloc, steps, source, sink),
         None => Status::Usage,
     }
+}
+
+/// The same over a source and a sink that never fail: no fault is answered, and the status is that of the input.
+pub fn ipyflow_surely(
+    alloc: Global,
+    words: &[String],
+    source: &mut SureSource,
+    sink: &mut SureSink,
+) -> Status
+    ensures read { result ≢ Status.ReadFault }
+    ensures write { result ≢ Status.WriteFault }
+    ensures sure { IsSure (command_of (map string_bytes words.now)) source.old result }
+{
+    ipyflow(alloc, words, source, sink)
 }
 
 fn serve<S: Source, K: Sink>(alloc: Global, steps: u32, source: &mut S, sink: &mut K) -> Status

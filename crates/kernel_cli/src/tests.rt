@@ -1,11 +1,16 @@
 // Worked logs with the replies that they must get, over a source and a sink in memory.
-use crate::serve::ipyflow;
+ghost use Rattle.std.specs.Prelude.{◌≤◌, None, IfOk, length};
+ghost use Rattle.flow_io.specs.Causes.{HasCause};
+
+use crate::law::{clean_log_law, stale_log_law};
+use crate::serve::{ipyflow, ipyflow_surely};
 use crate::status::Status;
 use crate::words::{Command, read_words};
 use flow_base::NoMemory;
-use flow_io::{LINE_LIMIT, MemSink, MemSource};
+use flow_io::{Failed, INPUT_LIMIT, LINE_LIMIT, MemSink, MemSource, Source, SureSink, SureSource};
 use std::alloc::Global;
 use std::process::Abort;
+use std::str;
 use std::test::Fail;
 
 const EDIT: &str = "{\"event\":\"edit\",\"cell\":\"a\",\"text\":\"x = 1\"}\n";
@@ -60,6 +65,27 @@ fn one_word(alloc: Global, word: &str) -> Result<Vec<String>, NoMemory> {
     Ok(words)
 }
 
+// A source in memory that gives at most so many bytes a call. It tells none.
+#[derive(Drop)]
+struct Pieces {
+    source: MemSource,
+    most: usize,
+}
+
+impl Source for Pieces {
+    ghost left = { λ _. None };
+
+    ghost faults = { λ s. s.source.faults };
+
+    fn read(&mut self, buf: &mut [u8]) -> Result<usize, Failed>
+        ensures bound { IfOk result (λ n. n ≤ length buf.new) }
+        ensures cause { HasCause self.old.source.faults self.new.source.faults result }
+    {
+        let len = buf.len().min(self.most);
+        self.source.read(&mut buf[..len])
+    }
+}
+
 // Answers the log, where these reads and these writes fail, and compares the status and what was written.
 fn answers(
     rt: &(impl Abort + AllocGlobal),
@@ -68,10 +94,25 @@ fn answers(
     status: Status,
     replies: &[&str],
 ) -> Result<(), Fail> {
+    answers_pieces(rt, log, 4_096, faults, status, replies)
+}
+
+// The same where the source gives at most so many bytes a call.
+fn answers_pieces(
+    rt: &(impl Abort + AllocGlobal),
+    log: &[u8],
+    most: usize,
+    faults: (u64, u64),
+    status: Status,
+    replies: &[&str],
+) -> Result<(), Fail> {
     let alloc = rt.alloc();
     let words = one_word(alloc, "run")?;
     let replies = joined(alloc, replies)?;
-    let mut source = MemSource::new(alloc, log, &[faults.0])?;
+    let mut source = Pieces {
+        source: MemSource::new(alloc, log, &[faults.0])?,
+        most,
+    };
     let mut sink = MemSink::new(alloc, 10_000, &[faults.1])?;
     assert_eq!(rt; ipyflow(alloc, &words, &mut source, &mut sink), status);
     assert_eq!(rt; sink.written(), replies.as_slice());
@@ -126,6 +167,125 @@ fn logs_get_their_replies(rt: HostRuntime) -> Result<(), Fail> {
     for (log, faults, status, replies) in rows {
         let log = joined(alloc, log)?;
         answers(&rt, &log, faults, status, replies)?;
+    }
+    Ok(())
+}
+
+// Six lines and their replies.
+const LINES: [&str; 6] = [
+    EDIT,
+    RUN,
+    "{\"event\":\"edit\",\"cell\":\"b\",\"text\":\"y = x\"}\n",
+    "{\"event\":\"run\",\"cell\":\"b\"}\n",
+    "{\"event\":\"run\",\"cell\":\"q\"}\n",
+    "{\"event\":\"run\",\"cell\":\"b\"}\n",
+];
+
+const REPLIES: [&str; 6] = [
+    EDITED,
+    RAN_1,
+    "{\"cell\":\"b\",\"edited\":true}\n",
+    "{\"cell\":\"b\",\"end\":\"ok\",\"mark\":\"clean\",\"out\":\"\",\"run\":2,\"stale\":[]}\n",
+    NO_CELL,
+    "{\"cell\":\"b\",\"end\":\"ok\",\"mark\":\"clean\",\"out\":\"\",\"run\":3,\"stale\":[]}\n",
+];
+
+// How many whole lines these bytes have.
+fn whole_lines(bytes: &[u8]) -> usize
+    ensures { result ≤ 6 }
+{
+    bytes.iter().filter(|byte| **byte == b'\n').count().min(6)
+}
+
+// In whatever pieces the log comes, it gets the same replies.
+#[test]
+fn pieces_make_no_difference(rt: HostRuntime) -> Result<(), Fail> {
+    let alloc = rt.alloc();
+    let log = joined(alloc, &LINES)?;
+    for most in [1, 2, 4_095, 4_096] {
+        answers_pieces(&rt, &log, most, (0, 0), Status::Refused, &REPLIES)?;
+    }
+    Ok(())
+}
+
+// One byte over the limit is too many. (`rt try` is too slow for this one.)
+#[test]
+fn input_has_a_limit(rt: HostRuntime) -> Result<(), Fail> {
+    let alloc = rt.alloc();
+    let log = vec![in alloc; b'x'; INPUT_LIMIT as usize + 1]?;
+    for most in [1, 2, 4_095, 4_096] {
+        answers_pieces(&rt, &log, most, (0, 0), Status::InputLimit, &[])?;
+    }
+    Ok(())
+}
+
+// Where the k-th read fails, the whole lines before it are answered; where the k-th write fails, the replies before it are
+// written.
+#[test]
+fn each_call_may_fail(rt: HostRuntime) -> Result<(), Fail> {
+    let alloc = rt.alloc();
+    let log = joined(alloc, &LINES)?;
+    for k in 0..=log.len().div_ceil(20) {
+        let given = log.len().min(20 * k.min(1_000));
+        let answered = &REPLIES[..whole_lines(&log[..given])];
+        let faults = (k as u64 + 1, 0);
+        answers_pieces(&rt, &log, 20, faults, Status::ReadFault, answered)?;
+    }
+    for k in 0..6 {
+        let faults = (0, k as u64 + 1);
+        answers(&rt, &log, faults, Status::WriteFault, &REPLIES[..k])?;
+    }
+    Ok(())
+}
+
+// The reply to a line that is cut before its end: it is no JSON, unless it lacks the line feed alone.
+fn reply_to_rest(cut: &[u8], answered: usize) -> &'static str {
+    if cut.is_empty() || cut.ends_with(b"\n") {
+        return "";
+    }
+    if cut.ends_with(b"}") {
+        return REPLIES.get(answered).copied().unwrap_or("");
+    }
+    JSON
+}
+
+// A log that is cut after each of its bytes: its whole lines are answered, and the rest of a line.
+#[test]
+fn a_log_may_be_cut(rt: HostRuntime) -> Result<(), Fail> {
+    let alloc = rt.alloc();
+    let log = joined(alloc, &LINES)?;
+    for end in 0..=log.len() {
+        let cut = &log[..end.min(log.len())];
+        let answered = whole_lines(cut);
+        let whole = joined(alloc, &REPLIES[..answered])?;
+        let whole = str::from_utf8(&whole).unwrap_or("");
+        let rest = reply_to_rest(cut, answered);
+        let refused = whole.contains("refused") || rest.contains("refused");
+        let status = if refused {
+            Status::Refused
+        } else {
+            Status::Done
+        };
+        answers(&rt, cut, (0, 0), status, &[whole, rest])?;
+    }
+    Ok(())
+}
+
+// No fault is answered where nothing can fail.
+#[test]
+fn sure_sources_and_sinks(rt: HostRuntime) -> Result<(), Fail> {
+    let alloc = rt.alloc();
+    clean_log_law();
+    stale_log_law();
+    for (word, log, want) in [
+        ("run", EDIT, Status::Done),
+        ("run", RUN, Status::Refused),
+        ("Run", RUN, Status::Usage),
+    ] {
+        let words = one_word(alloc, word)?;
+        let mut source = SureSource::new(alloc, log.as_bytes())?;
+        let mut sink = SureSink::new();
+        assert_eq!(rt; ipyflow_surely(alloc, &words, &mut source, &mut sink), want);
     }
     Ok(())
 }

@@ -1,5 +1,5 @@
 -- What the mark of a clean run says of the history that the log has.
-use Rattle.std.proofs.Common.{◌≡◌, ℕ, ◌+◌, ◌<◌, Bool, true, false, cond, ◌&&◌, List, [], ◌∷◌, ◌++◌, length, map, refl, sym, subst, ap, ◌∙◌, arith}
+use Rattle.std.proofs.Common.{◌≡◌, ℕ, ◌+◌, Bool, true, false, cond, ◌&&◌, List, [], ◌∷◌, ◌++◌, length, map, refl, sym, subst, ap, ◌∙◌, arith}
 use Rattle.std.specs.Prelude.{Option, Some, None, Result, Ok, Err, is_some, filter, option_map}
 use Rattle.std.specs.List.{Contains, AllByRecursion, cons_option, fold}
 use Rattle.std.specs.FinMap as map
@@ -12,17 +12,18 @@ use Rattle.flow_base.specs.declared.event.ReadHow.TheVariants.{Use as ByUse, Pla
 use Rattle.flow_base.specs.declared.loc.Loc.{Loc}
 use Rattle.flow_base.specs.declared.numbers.Sym.{Sym}
 use Rattle.flow_wire.specs.declared.reply.MarkText.{MarkText}
-use Rattle.flow_wire.specs.declared.reply.MarkText.TheVariants.{Clean, Stale}
+use Rattle.flow_wire.specs.declared.reply.MarkText.TheVariants.{Clean}
 use Rattle.trace_events.specs.declared.version.Version.{Version}
 use Rattle.trace_events.specs.declared.summary.StartRead.{StartRead}
 use Rattle.trace_events.specs.Trace.{summary_of}
 use Rattle.trace_events.specs.History.{History, history_of, run_of}
 use Rattle.trace_events.specs.Decided.{is_stale}
+use Rattle.trace_events.specs.Staleness.{Stale}
 use Rattle.trace_events.specs.Why.{Reason, least, why_of}
 use Rattle.trace_events.proofs.Ancestors.{IsAscending, writes_ascend}
 use Rattle.trace_events.proofs.Lists.{Contains-cons, Contains-filter, Contains-filter_of, Contains-head}
 use Rattle.trace_events.proofs.Reasons.{least_found, least_none, stale_reason}
-use Rattle.trace_events.proofs.StaleTest.{stale_within_true}
+use Rattle.trace_events.proofs.StaleTest.{stale_within_true, true_stale_within}
 use Rattle.kernel_core.specs.declared.accepted.Accepted.{Accepted}
 use Rattle.kernel_core.specs.declared.accepted.Accepted.TheVariants.{Edit, Run}
 use Rattle.kernel_core.specs.declared.form.Assign.{Assign}
@@ -91,14 +92,18 @@ module _ (names : List (List ℕ)) (h : History) (ascend : IsAscending h) where
       (stale_reason names h ascend (run_of u + 1) (length h) u (omega arith) (stale_within_true h ascend (run_of u + 1) (length h) u test)) m
 
   abbrev IsFresh : Loc → Type 0
-  IsFresh l = is_stale h (length h) (version_now h l) ≡ false
+  IsFresh l = ¬ Stale h (length h) (version_now h l)
+
+  -- what is stale passes the test, and what passes it is stale
+  passes : (v : Version) → Stale h (length h) v → is_stale h (length h) v ≡ true
+  passes v st = true_stale_within h ascend (run_of v + 1) (omega arith) st
 
   fresh_head : (o : Option Sym) (vs : List Version)
       → ((v : Version) → Contains (cons_option (option_map (λ s. version_now h (global s)) o) vs) v → is_stale h (length h) v ≡ true → ⊥)
       → AtSymbol IsFresh o × ((v : Version) → Contains vs v → is_stale h (length h) v ≡ true → ⊥)
   fresh_head None vs f = (tt, f)
   fresh_head (Some s) vs f = (
-    false_from_ne_true (is_stale h (length h) (version_now h (global s))) (f (version_now h (global s)) (Contains-head (version_now h (global s)) vs)),
+    λ st. f (version_now h (global s)) (Contains-head (version_now h (global s)) vs) (passes (version_now h (global s)) st),
     λ v c. f v (Contains-cons (version_now h (global s)) v vs c),
   )
 
@@ -133,9 +138,11 @@ no_stale_reads h (read ∷ reads) f =
     ∙ no_stale_reads h reads (λ l c. f l (Contains-cons read (record { location = l; how = ByUse }) reads c))
 
 -- a run that uses nothing stale names nothing stale
-pub no_stale_paths : (names : List (List ℕ)) (h : History) (events : List Event) → HasNoStaleUse h events → stale_paths names h events ≡ []
-no_stale_paths names h events f =
-    ap (λ (reads : List StartRead). in_order (map (λ read. path_of names (Some read.location)) reads)) (no_stale_reads h (summary_of events).reads f)
+pub no_stale_paths : (names : List (List ℕ)) (h : History) (events : List Event) → IsAscending h → HasNoStaleUse h events → stale_paths names h events ≡ []
+no_stale_paths names h events ascend f =
+    ap (λ (reads : List StartRead). in_order (map (λ read. path_of names (Some read.location)) reads)) (no_stale_reads h (summary_of events).reads (λ l c.
+    let v : Version = version_now h l in
+    false_from_ne_true (is_stale h (length h) v) (λ t. f l c (stale_within_true h ascend (run_of v + 1) (length h) v t))))
 
 -- ---- a log
 
@@ -156,4 +163,4 @@ module _ (log : List Accepted) (assigns : List Assign) where
       (clean_has_no_stale_use m)
 
   pub clean_names_no_stale : mark_of state.names state.versions assigns ≡ Clean → stale_paths state.names state.versions events ≡ []
-  clean_names_no_stale m = no_stale_paths state.names state.versions events (clean_has_no_stale_use m)
+  clean_names_no_stale m = no_stale_paths state.names state.versions events (history_ascends state.versions (state_history log)) (clean_has_no_stale_use m)

@@ -1,9 +1,8 @@
 -- A run none of whose start uses was stale leaves no stale version.
 use Rattle.std.proofs.Common.{◌≡◌, ℕ, zero, suc, ◌+◌, ◌-◌, ◌<◌, ◌≤◌, Bool, true, false, cond, List, [], ◌∷◌, ◌++◌, length, reverse, refl, sym, subst, ap, ◌∙◌, arith}
-use Rattle.std.specs.Prelude.{Option, Some, None, ◌==◌}
+use Rattle.std.specs.Prelude.{Some, ◌==◌}
 use Rattle.std.specs.List.{Contains, AllByRecursion, fold}
-use Rattle.std.proofs.lemmas.Bool.{false≢true, true≢false, false_from_ne_true}
-use Rattle.std.proofs.lemmas.List.{get_or_push, length-append}
+use Rattle.std.proofs.lemmas.List.{get_or_push}
 use Rattle.std.proofs.lemmas.List.Elements.{All-contains, All-from_recursion, Contains-append_left, Contains-push}
 use Rattle.flow_base.specs.declared.event.Event.{Event}
 use Rattle.flow_base.specs.declared.event.Event.TheVariants.{Use, Place, Write, Open, Close, CallIn, CallOut}
@@ -20,11 +19,9 @@ use Rattle.trace_events.specs.declared.summary.Write.{Write as Written}
 use Rattle.trace_events.specs.Trace.{Reading, Summary, all_uses, close, forget, gather, hand_out, seen_after, start, start_read, step, summary_of}
 use Rattle.trace_events.specs.History.{History, current, deps, run_of, uses_at, version_seen, write_at, writes_of}
 use Rattle.trace_events.specs.Staleness.{Near, earlier, within, Stale}
-use Rattle.trace_events.specs.Decided.{is_stale}
 use Rattle.trace_events.proofs.Ancestors.{IsAscending, run_of-current}
 use Rattle.trace_events.proofs.Lists.{no_member, Contains-map}
 use Rattle.trace_events.proofs.Reading.{each-append, each-flat, each-reverse, each-weaker}
-use Rattle.trace_events.proofs.StaleTest.{stale_within_true, true_stale_within}
 use Rattle.trace_events.proofs.StepLaw.{stale_own}
 use Rattle.version_store.proofs.Extension.{current-append, writes_of-append}
 use Rattle.version_store.proofs.Creation.{run_of-made}
@@ -137,7 +134,7 @@ module _ (h : History) (es : List Event) (ascend : IsAscending h) (ascend_after 
       ∙ ap (λ (s : Summary). s.writes) (get_or_push h (summary_of es) (record { reads = []; writes = [] }) (length h) refl)
 
   -- a location whose version was not stale before the run
-  start_stale : (l : Loc) → is_stale h (length h) (current h (length h) l) ≡ false → Stale (history_after h es) (length h) (current (history_after h es) (length h) l) → ⊥
+  start_stale : (l : Loc) → ¬ Stale h (length h) (current h (length h) l) → Stale (history_after h es) (length h) (current (history_after h es) (length h) l) → ⊥
   start_stale l fresh st =
       let v : Version = current h (length h) l in
       let bound : run_of v ≤ length h = run_of-current h (length h) l in
@@ -145,7 +142,7 @@ module _ (h : History) (es : List Event) (ascend : IsAscending h) (ascend_after 
       let was : Stale h (length h) v =
       stale_to (length h) (history_after h es) h (λ m le. writes_of-append h (summary_of es ∷ []) m le) ascend_after (omega arith) bound
       (subst (λ (x : Version). Stale (history_after h es) (length h) x) same st) in
-      false≢true (sym fresh ∙ true_stale_within h ascend (run_of v + 1) (omega arith) was)
+      fresh was
 
   seen_stale : (s : Seen) → IsBacked (summary_of es).reads s → run_of (version_seen (history_after h es) (length h + 1) s) < length h + 1
       → Stale (history_after h es) (length h) (version_seen (history_after h es) (length h + 1) s) → ⊥
@@ -178,9 +175,8 @@ module _ (h : History) (es : List Event) (ascend : IsAscending h) (ascend_after 
 
   -- no version that the run wrote is stale when it ends
   pub leaves_no_stale : LeavesNoStale h es
-  leaves_no_stale v c = false_from_ne_true (is_stale (history_after h es) (length h + 1) v) (λ t.
+  leaves_no_stale v c st =
       let run : run_of v ≡ length h + 1 = run_of-made (history_after h es) (length h + 1) v c in
-      let st = stale_within_true (history_after h es) ascend_after (run_of v + 1) (length h + 1) v t in
       let near = stale_own (history_after h es) (length h + 1) run st in
       let last : (length h + 1) - 1 ≡ length h = omega arith in
-      near_stale near.1 run (subst (λ (n : ℕ). Stale (history_after h es) n near.0) last near.2))
+      near_stale near.1 run (subst (λ (n : ℕ). Stale (history_after h es) n near.0) last near.2)

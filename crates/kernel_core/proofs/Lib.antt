@@ -5,3 +5,5 @@ pub mod ReasonLaws
 pub mod KeptClean
 pub mod LiveUses
 pub mod CleanRuns
+pub mod CleanReplies
+pub mod Shown

@@ -1,7 +1,7 @@
 -- What a cell uses before it writes it is one of its live names.
-use Rattle.std.proofs.Common.{◌≡◌, ℕ, Bool, true, false, not, cond, ◌||◌, List, [], ◌∷◌, ◌++◌, refl, sym, subst, ap, ◌∙◌, ⊎_elim}
-use Rattle.std.specs.Prelude.{Option, Some, None, Result, Ok, Err, is_some, filter}
-use Rattle.std.specs.List.{AllByRecursion, filter_map, fold}
+use Rattle.std.proofs.Common.{◌≡◌, ℕ, Bool, true, false, not, cond, List, [], ◌∷◌, ◌++◌, refl, sym, subst, ap, ◌∙◌, ⊎_elim}
+use Rattle.std.specs.Prelude.{Option, Some, None, Result, Ok, Err, is_some}
+use Rattle.std.specs.List.{AllByRecursion, fold}
 use Rattle.std.proofs.lemmas.Bool.{false≢true, true≢false, or_cases}
 use Rattle.std.proofs.lemmas.List.Sums.{fold-append}
 use Rattle.std.proofs.lemmas.Slice.Eq.{bytes_eq-Decides}
@@ -11,7 +11,7 @@ use Rattle.flow_base.specs.Names.{symbol_of}
 use Rattle.flow_base.specs.Same.{loc_eq}
 use Rattle.flow_base.specs.declared.event.Event.{Event}
 use Rattle.flow_base.specs.declared.event.Event.TheVariants.{Use, Write, Open, Close}
-use Rattle.flow_base.specs.declared.event.How.TheVariants.{Normal, Raise}
+use Rattle.flow_base.specs.declared.event.How.TheVariants.{Normal}
 use Rattle.flow_base.specs.declared.event.ReadHow.TheVariants.{Use as ByUse}
 use Rattle.flow_base.specs.declared.loc.Loc.{Loc}
 use Rattle.flow_base.specs.declared.numbers.Sym.{Sym}
@@ -25,7 +25,6 @@ use Rattle.kernel_core.specs.declared.form.Atom.TheVariants.{Name, Number}
 use Rattle.kernel_core.specs.declared.form.Assign.{Assign}
 use Rattle.kernel_core.specs.declared.run.End.{End}
 use Rattle.kernel_core.specs.declared.run.End.TheVariants.{Done, NameError, Range}
-use Rattle.kernel_core.specs.Form.{name_of}
 use Rattle.kernel_core.specs.Lineage.{end_events, event_at, events_from, global, is_in, line_events, live_from, live_names, sum_events, then_events}
 use Rattle.kernel_core.specs.Marking.{live_in}
 use Rattle.kernel_core.specs.Run.{Values, plus, sum_from, with_value, worth}

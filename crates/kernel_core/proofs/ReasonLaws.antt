@@ -1,19 +1,18 @@
 -- A reason names a version that has a location.
-use Rattle.std.proofs.Common.{◌≡◌, ◌∙◌, ℕ, zero, suc, ◌+◌, ◌-◌, List, [], ◌∷◌, length, Bool, true, false, cond, Option, Some, None, ap, sym, refl, subst}
+use Rattle.std.proofs.Common.{◌≡◌, ◌∙◌, ℕ, zero, suc, ◌+◌, ◌-◌, List, [], ◌∷◌, length, Bool, true, false, cond, Option, Some, None, ap, refl, subst}
 use Rattle.std.specs.Prelude.{is_some}
 use Rattle.std.specs.List.{find}
 use Rattle.std.proofs.lemmas.Bool.{false≢true}
-use Rattle.flow_base.specs.declared.event.Event.{Event}
 use Rattle.flow_base.specs.declared.loc.Loc.{Loc}
 use Rattle.flow_wire.specs.declared.reply.MarkText.{MarkText}
 use Rattle.flow_wire.specs.declared.reply.MarkText.TheVariants.{Clean, Stale}
 use Rattle.trace_events.specs.declared.version.Version.{Version}
 use Rattle.trace_events.specs.declared.summary.Write.{Write as Written}
 use Rattle.trace_events.specs.History.{History, location_of, run_of, wrote, wrote_location, writes_of}
-use Rattle.trace_events.specs.Decided.{is_stale, runs_after}
+use Rattle.trace_events.specs.Decided.{runs_after}
 use Rattle.trace_events.specs.Why.{Reason, first_overwrite, least_overwritten, least_stale_near, or_carried, reason_of_dep, reason_with, reason_within, why_of}
 use Rattle.dependence_graph.specs.declared.why.Why.{Why}
-use Rattle.dependence_graph.specs.Answer.{answer_at, answer_of}
+use Rattle.dependence_graph.specs.Answer.{answer_of}
 use Rattle.kernel_core.specs.Lineage.{path_of, stale_mark}
 
 -- what is written has a location

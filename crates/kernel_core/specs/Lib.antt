@@ -7,3 +7,4 @@ pub mod Clean
 pub mod State
 pub mod Kernel
 pub mod Answer
+pub mod Examples

@@ -1,5 +1,5 @@
 -- What a session has come to, as a function of what was accepted.
-use Rattle.std.specs.Prelude.{ℕ, List, [], ◌∷◌, ◌++◌, fold, flat_map, Option, Some, None, Result, Ok, Err, refl}
+use Rattle.std.specs.Prelude.{ℕ, List, [], ◌∷◌, ◌++◌, fold, flat_map, Option, Some, None, Result, Ok, Err}
 use Rattle.std.specs.List.{filter_map}
 use Rattle.std.specs.FinMap as map
 use Rattle.flow_base.specs.Names.{with_name}
@@ -7,7 +7,6 @@ use Rattle.kernel_core.specs.declared.accepted.Accepted.{Accepted}
 use Rattle.kernel_core.specs.declared.accepted.Accepted.TheVariants.{Edit, Run}
 use Rattle.kernel_core.specs.declared.form.Assign.{Assign}
 use Rattle.kernel_core.specs.declared.state.Kept.{Kept}
-use Rattle.kernel_core.specs.declared.state.Ran.{Ran}
 use Rattle.kernel_core.specs.declared.state.State.{State}
 use Rattle.kernel_core.specs.Form.{cell_of, name_of}
 use Rattle.kernel_core.specs.Run.{run_from}

@@ -4,6 +4,7 @@ ghost use Rattle.kernel_core.specs.Kernel.{new_kernel};
 
 use crate::accepted::Accepted;
 use crate::answer::answer;
+use crate::law::clean_reply_law;
 use crate::sequence::Sequence;
 use crate::state::State;
 use dependence_graph::Graph;
@@ -43,6 +44,8 @@ impl Model for Kernel {
 
 impl Kernel {
     ghost use Rattle.kernel_core.specs.Answer.{answer_of};
+    ghost use Rattle.kernel_core.specs.Clean.{KeepsClean};
+    ghost use Rattle.kernel_core.specs.State.{state_of};
 
     /// A kernel that has accepted nothing. A run that names no steps is allowed this many.
     pub fn new(alloc: Global, steps: u32) -> Result<Kernel, NoMemory>
@@ -73,7 +76,11 @@ impl Kernel {
         ensures err { OnErr result (self.new ≡ record self.old { failed = true }) }
         ensures failed { IsErr result ↔ (self.new.failed ≡ true) }
         ensures stays { self.old.failed ≡ true → IsErr result }
+
+        // A run that is answered `clean` used nothing stale, and leaves nothing stale, over the history of what was accepted.
+        ensures clean { IfOk result (λ reply. KeepsClean (state_of self.old.log) reply) }
     {
+        clean_reply_law();
         if self.failed {
             return Err(NoMemory);
         }

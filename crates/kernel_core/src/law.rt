@@ -1,5 +1,5 @@
 // Laws of the answers.
-ghost use Rattle.std.specs.Prelude.{◌≡◌, List, [], true};
+ghost use Rattle.std.specs.Prelude.{◌≡◌, ◌∷◌, List, [], true, codes};
 ghost use Rattle.flow_wire.specs.declared.ask.Ask.{Ask};
 ghost use Rattle.flow_wire.specs.Replied.{is_refusal};
 ghost use Rattle.kernel_core.specs.Kernel.{Held};
@@ -7,9 +7,12 @@ ghost use Rattle.flow_wire.specs.declared.reply.MarkText.TheVariants.{Clean};
 ghost use Rattle.kernel_core.specs.declared.accepted.Accepted.{Accepted};
 ghost use Rattle.kernel_core.specs.declared.state.Kept.{Kept};
 ghost use Rattle.kernel_core.specs.Answer.{answer_of};
-ghost use Rattle.kernel_core.specs.Clean.{HasNoStaleUse, LeavesNoStale};
+ghost use Rattle.kernel_core.specs.Clean.{HasNoStaleUse, KeepsClean, LeavesNoStale};
+ghost use Rattle.kernel_core.specs.Examples.{UsesRun, reply_after, uses_another, uses_outdated};
 ghost use Rattle.kernel_core.specs.Lineage.{events_from, mark_of, stale_paths};
 ghost use Rattle.kernel_core.specs.State.{state_of};
+
+use flow_wire::{EndText, MarkText, Reply};
 
 /// A refusal leaves the kernel as it was.
 pub fn answer_law()
@@ -29,4 +32,22 @@ pub fn clean_law()
     ensures names { (log : List Accepted) (kept : Kept) → let s = state_of log in
         mark_of s.names s.versions kept.assigns ≡ Clean
         → stale_paths s.names s.versions (events_from s.names s.values kept.assigns) ≡ [] }
+{}
+
+/// A reply that says `clean` of a run keeps what that promises, over the history that the log before it has.
+pub fn clean_reply_law()
+    ensures { (k : Held) (a : Ask) → KeepsClean (state_of k.log) (answer_of k a).reply }
+{}
+
+/// A run that uses what another run wrote, and is clean.
+pub fn clean_run_law()
+    ensures uses { UsesRun uses_another (codes "b") 1 }
+    ensures reply { reply_after uses_another (codes "b") ≡ Reply.Ran (codes "b") EndText.Ok MarkText.Clean [] 2 [] }
+{}
+
+/// A run that uses what is outdated: run 2 computed it from `x`, which run 3 has overwritten.
+pub fn stale_run_law()
+    ensures uses { UsesRun uses_outdated (codes "c") 2 }
+    ensures reply { reply_after uses_outdated (codes "c")
+        ≡ Reply.Ran (codes "c") EndText.Ok (MarkText.Stale 2 (codes "x") 3 (codes "y")) [] 4 (codes "y" ∷ []) }
 {}

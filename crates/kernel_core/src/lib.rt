@@ -18,5 +18,5 @@ mod values;
 pub use accepted::Accepted;
 pub use form::{Assign, Atom, Cell};
 pub use kernel::{Kernel, STEPS_LIMIT};
-pub use law::{answer_law, clean_law};
+pub use law::{answer_law, clean_law, clean_reply_law, clean_run_law, stale_run_law};
 pub use run::End;

@@ -1,7 +1,7 @@
 // Texts, runs and refusals, as a session shows them.
 use crate::form::{FormFault, read_cell};
 use crate::state::State;
-use crate::{End, Kernel, answer_law};
+use crate::{End, Kernel, answer_law, clean_law, clean_reply_law, clean_run_law, stale_run_law};
 use flow_base::{NoMemory, PyText};
 use flow_wire::{Ask, MarkText, Reply, write_reply};
 use std::alloc::Global;
@@ -86,6 +86,10 @@ fn answers(alloc: Global, kernel: &mut Kernel, a: &Ask, want: &str) -> Result<bo
 fn answers_asks(rt: HostRuntime) -> Result<(), Fail> {
     let alloc = rt.alloc();
     answer_law();
+    clean_law();
+    clean_reply_law();
+    clean_run_law();
+    stale_run_law();
     let mut kernel = Kernel::new(alloc, 1_000_000)?;
     for (cell, text, steps, want) in [
         (

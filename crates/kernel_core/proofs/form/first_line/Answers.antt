@@ -1,6 +1,6 @@
-use Rattle.std.proofs.Common.{◌≡◌, ℕ, ◌<◌, ◌≤◌, List, length, Some, None, arith, sym, ◌∙◌, position}
+use Rattle.std.proofs.Common.{length, arith, sym, ◌∙◌}
 use Rattle.std.proofs.lemmas.List.{take_rest, drop_all}
-use Rattle.kernel_core.proofs.FormLaws.{lines_at_end, lines_without_end, line_end, found_end, no_end}
+use Rattle.kernel_core.proofs.FormLaws.{lines_at_end, lines_without_end, found_end, no_end}
 use Rattle.kernel_core.proofs.form.first_line.Goals as goal
 
 pub returns-in-Some-clause-lines : goal.returns-in-Some-clause-lines

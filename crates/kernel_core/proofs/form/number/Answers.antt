@@ -1,4 +1,4 @@
-use Rattle.std.proofs.Common.{◌≡◌, arith, ◌<◌, ◌≤◌, ◌^◌}
+use Rattle.std.proofs.Common.{arith}
 use Rattle.kernel_core.proofs.FormLaws.{digit_at, more_fits}
 use Rattle.kernel_core.proofs.form.number.Goals as goal
 

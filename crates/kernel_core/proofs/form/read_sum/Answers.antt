@@ -1,4 +1,4 @@
-use Rattle.std.proofs.Common.{◌≡◌, ◌<◌, ◌+◌, ℕ, List, length, Some, true, sym, ap, ◌∙◌, arith, Bor}
+use Rattle.std.proofs.Common.{◌≡◌, ◌<◌, ◌+◌, ℕ, List, length, true, sym, ap, ◌∙◌, arith, Bor}
 use Rattle.kernel_core.proofs.FormLaws.{after_atoms, after_atoms_push, sum_at-bad, sum_at-plus, sum_at}
 use Rattle.kernel_core.proofs.form.read_sum.Goals as goal
 

@@ -1,4 +1,4 @@
-use Rattle.std.proofs.Common.{◌≡◌, ◌<◌, ℕ, List, length, map, sym, arith, Bor}
+use Rattle.std.proofs.Common.{◌<◌, ℕ, List, length, map, sym, arith, Bor}
 use Rattle.std.proofs.lemmas.List.{length-map}
 use Rattle.kernel_core.proofs.FormLaws.{assign_in_short}
 use Rattle.kernel_core.proofs.form.read_words.Goals as goal

@@ -1,4 +1,4 @@
-use Rattle.std.proofs.Common.{◌≡◌, ◌∙◌, ℕ, List, Some, ap, sym}
+use Rattle.std.proofs.Common.{◌∙◌, Some, ap, sym}
 use Rattle.std.specs.Prelude.{option_map}
 use Rattle.kernel_core.specs.Marking.{all_written, written}
 use Rattle.kernel_core.proofs.LineageLaws.{least_onto, least_onto-none, least_popped}

@@ -1,4 +1,4 @@
-use Rattle.std.proofs.Common.{◌≡◌, ◌∙◌, ℕ, List, true, false, sym, refl}
+use Rattle.std.proofs.Common.{◌≡◌, ◌∙◌, true, false, sym, refl}
 use Rattle.std.specs.Ordering.{is_lt}
 use Rattle.trace_events.specs.Order.{version_cmp}
 use Rattle.kernel_core.specs.Marking.{written}

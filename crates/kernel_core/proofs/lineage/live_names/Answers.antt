@@ -1,4 +1,4 @@
-use Rattle.std.proofs.Common.{◌≡◌, ◌∙◌, ◌+◌, List, ◌∷◌, ◌++◌, drop, ap, sym, append_assoc}
+use Rattle.std.proofs.Common.{◌≡◌, ◌∙◌, ◌+◌, ◌∷◌, ◌++◌, drop, ap, sym, append_assoc}
 use Rattle.std.proofs.lemmas.List.{drop_more}
 use Rattle.kernel_core.specs.declared.form.Assign.{Assign}
 use Rattle.kernel_core.specs.Marking.{has_name, live_in}

@@ -1,6 +1,4 @@
-use Rattle.std.proofs.Common.{◌≡◌, ◌∙◌, None, length, sym}
-use Rattle.trace_events.specs.Why.{why_of}
-use Rattle.dependence_graph.specs.Answer.{answer_of}
+use Rattle.std.proofs.Common.{◌∙◌, None, sym}
 use Rattle.kernel_core.proofs.ReasonLaws.{mark_of_answer}
 use Rattle.kernel_core.proofs.lineage.stale_mark.Goals as goal
 

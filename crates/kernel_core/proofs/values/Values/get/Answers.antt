@@ -2,7 +2,6 @@ use Rattle.std.proofs.Common.{ℕ, ap, sym, ◌∙◌}
 use Rattle.std.specs.Ordering.{nat_cmp}
 use Rattle.std.specs.Cmp.{nat_cmp_total}
 use Rattle.std.specs.FinMap as map
-use Rattle.std.specs.Option.{option_copied}
 use Rattle.kernel_core.specs.declared.values.Values.{Values}
 use Rattle.kernel_core.proofs.Keyed.{get-keyed}
 use Rattle.kernel_core.proofs.values.Values.get.Goals as goal
