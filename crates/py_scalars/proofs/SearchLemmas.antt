@@ -1,5 +1,5 @@
 -- Places of parts, pieces and words of a text.
-use Rattle.std.proofs.Common.{◌≡◌, ℕ, zero, suc, ◌+◌, ◌-◌, ◌*◌, ◌%◌, ◌^◌, ◌<◌, ◌≤◌, List, [], ◌∷◌, ◌++◌, length, get_or, take, drop, Bool, true, false, cond, ◌==◌, Option, Some, None, option_map, fold, filter, ap, sym, ◌∙◌, refl, subst, ⊎_elim, append_assoc, add-one, zero-add, arith}
+use Rattle.std.proofs.Common.{◌≡◌, ℕ, zero, suc, ◌+◌, ◌-◌, ◌<◌, ◌≤◌, List, [], ◌∷◌, ◌++◌, length, get_or, take, drop, Bool, true, false, cond, ◌==◌, Option, Some, None, option_map, filter, ap, sym, ◌∙◌, refl, subst, ⊎_elim, append_assoc, add-one, arith}
 use Rattle.std.specs.List.{slice_split, onto_first, All}
 use Rattle.std.specs.Char.{is_whitespace}
 use lib.Pointwise.{pointwise}
@@ -8,12 +8,8 @@ use Rattle.std.proofs.lemmas.Slice.Eq.{slice_eq-Decides}
 use Rattle.std.proofs.lemmas.Bool.Decides.{Decides-eqb}
 use Rattle.std.proofs.lemmas.Bool.{cases_lt, and_parts, and_from, false_from_ne_true, eqb-true, eq-eqb}
 use Rattle.std.proofs.lemmas.Option.{none-some, same_Some}
-use Rattle.std.proofs.lemmas.List.{append-nil, drop-drop, drop-take, take-take, take-append-drop, get_or-take, get_or-drop, get_or_default, length-take, length-drop, take_rest, drop_more}
+use Rattle.std.proofs.lemmas.List.{append-nil, drop-drop, take-append-drop, get_or-take, get_or-drop, get_or_default, length-take, length-drop, take_rest, drop_more}
 use Rattle.std.proofs.lemmas.List.Splits.{slice_split_at, slice_split_none}
-use Rattle.std.proofs.lemmas.Nat.{mul-mod_first, mul-mod_second, mod_below}
-use Rattle.std.proofs.lemmas.List.Sums.{fold-append, fold_more}
-use Rattle.std.proofs.Math.Nat.{pow-suc, mul_comm, mul_assoc, mul-one, add-mul, mod-add-mod, add-mod-mod, mod-eq_of_lt}
-use Rattle.py_scalars.specs.Hash.{step_of, hash}
 use Rattle.py_scalars.specs.Search.{begins_with, first_place, pieces, pieces_after, joined, replaced, words, is_filled}
 
 -- ---- a text that begins with a part
@@ -195,104 +191,6 @@ words_rest text from h black =
     let all : take (length text - from) (drop from text) ≡ drop from text = take_rest text from in
     ap (filter is_filled) (slice_split_none is_whitespace (drop from text) (subst (All (λ c. is_whitespace c ≡ false)) all (no_white text from (length text) (omega arith) black)))
     ∙ ap (λ t. filter is_filled (t ∷ [])) (sym all)
-
--- ---- hashes
-
-abbrev base : ℕ
-base = 1103515245
-
-abbrev modulus : ℕ
-modulus = 2147483647
-
-pub scale_more : (k : ℕ) → 1103515245 ^ k % 2147483647 * 1103515245 % 2147483647 ≡ 1103515245 ^ (k + 1) % 2147483647
-scale_more k = mul-mod_first (base ^ k) base modulus ∙ ap (λ n. n % modulus) (sym (rw (add-one k) (pow-suc base k)))
-
-small_step : (h c : ℕ) → step_of h c < modulus
-small_step h c = mod_below (h * base + c) modulus (omega arith)
-
-times_rest : (x s r : ℕ) → (x % modulus * s + r) % modulus ≡ (x * s + r) % modulus
-times_rest x s r =
-    sym (mod-add-mod (x % modulus * s) modulus r) ∙ ap (λ y. (y + r) % modulus) (mul-mod_first x s modulus) ∙ mod-add-mod (x * s) modulus r
-
-rest_times : (h x y : ℕ) → (h * (x % modulus) + y % modulus) % modulus ≡ (h * x + y) % modulus
-rest_times h x y =
-    add-mod-mod (h * (x % modulus)) y modulus
-    ∙ sym (mod-add-mod (h * (x % modulus)) modulus y)
-    ∙ ap (λ z. (z + y) % modulus) (mul-mod_second h x modulus)
-    ∙ mod-add-mod (h * x) modulus y
-
--- a hash goes on from a number as it does from 0, with the number scaled before it
-hash_from : (text : List ℕ) (h : ℕ) → h < modulus → fold step_of h text ≡ (h * (base ^ length text % modulus) + hash text) % modulus
-hash_from [] h l = sym (ap (λ n. n % modulus) (omega (arith, mul-one h)) ∙ mod-eq_of_lt l)
-hash_from (c ∷ text) h l =
-    let s : ℕ = base ^ length text in
-    let r : ℕ = hash text in
-    let here = hash_from text (step_of h c) (small_step h c) in
-    let from_zero = hash_from text (step_of 0 c) (small_step 0 c) in
-    let front = scaled h c (length text) r in
-    here ∙ front ∙ ap (λ y. (h * (base ^ length (c ∷ text) % modulus) + y) % modulus) (sym from_zero)
-  where
-    spread : (h c s r : ℕ) → (h * base + c) * s + r ≡ h * (base * s) + (c * s + r)
-    spread h c s r = omega (arith, add-mul (h * base) c s, mul_assoc h base s)
-
-    power_next : (k : ℕ) → base * (base ^ k % modulus) % modulus ≡ base ^ suc k % modulus
-    power_next k = mul-mod_second base (base ^ k) modulus ∙ ap (λ n. n % modulus) (mul_comm base (base ^ k) ∙ sym (pow-suc base k))
-
-    scaled : (h c k r : ℕ) → (step_of h c * (base ^ k % modulus) + r) % modulus ≡ (h * (base ^ suc k % modulus) + (step_of 0 c * (base ^ k % modulus) + r) % modulus) % modulus
-    scaled h c k r =
-        let s : ℕ = base ^ k % modulus in
-        times_rest (h * base + c) s r
-        ∙ ap (λ n. n % modulus) (spread h c s r)
-        ∙ sym (rest_times h (base * s) (c * s + r))
-        ∙ ap (λ x. (h * x + (c * s + r) % modulus) % modulus) (power_next k)
-        ∙ ap (λ y. (h * (base ^ suc k % modulus) + y) % modulus) (sym (times_rest c s r))
-        ∙ ap (λ x. (h * (base ^ suc k % modulus) + (x % modulus * s + r) % modulus) % modulus) (sym (zero-add c))
-
-hash-append : (xs ys : List ℕ) → hash (xs ++ ys) ≡ (hash xs * (base ^ length ys % modulus) + hash ys) % modulus
-hash-append xs ys = fold-append step_of 0 xs ys ∙ hash_from ys (hash xs) (small xs)
-  where
-    below : (h : ℕ) (xs : List ℕ) → h < modulus → fold step_of h xs < modulus
-    below h [] l = l
-    below h (c ∷ xs) l = below (step_of h c) xs (small_step h c)
-
-    small : (xs : List ℕ) → hash xs < modulus
-    small xs = below 0 xs (omega arith)
-
--- where the part stands, the two hashes agree
-pub hashes_agree : (part text : List ℕ) (from i before upto scale goal : ℕ) → from ≤ i → before ≡ hash (take (i - from) (drop from text)) → upto ≡ hash (take (i - from + length part) (drop from text)) → scale ≡ 1103515245 ^ length part % 2147483647 → goal ≡ hash part → begins_with part (drop i text) ≡ true → upto ≡ (before * scale + goal) % 2147483647
-hashes_agree part text from i before upto scale goal h is_before is_upto is_scale is_goal stands =
-    let on : from + (i - from) ≡ i = omega arith in
-    let ahead : drop (i - from) (drop from text) ≡ drop i text = drop-drop (i - from) from text ∙ ap (λ m. drop m text) on in
-    let both : take (i - from + length part) (drop from text) ≡ take (i - from) (drop from text) ++ part = take-add (i - from) (length part) (drop from text) ∙ ap (λ t. take (i - from) (drop from text) ++ take (length part) t) ahead ∙ ap (λ t. take (i - from) (drop from text) ++ t) (begins_with-take part (drop i text) stands).1 in
-    is_upto
-    ∙ ap hash both
-    ∙ hash-append (take (i - from) (drop from text)) part
-    ∙ ap (λ x. (x * (base ^ length part % modulus) + hash part) % modulus) (sym is_before)
-    ∙ ap (λ x. (before * x + hash part) % modulus) (sym is_scale)
-    ∙ ap (λ x. (before * scale + x) % modulus) (sym is_goal)
-  where
-    take-add : (m n : ℕ) (xs : List ℕ) → take (m + n) xs ≡ take m xs ++ take n (drop m xs)
-    take-add m n xs = sym (take-append-drop m (take (m + n) xs)) ∙ ap (λ t. t ++ drop m (take (m + n) xs)) (take-take m (m + n) xs (omega arith)) ∙ ap (λ t. take m xs ++ t) (drop-take m n xs)
-
--- one code point more
-pub hash_more : (text : List ℕ) (from n i m h x : ℕ) → h ≡ hash (take n (drop from text)) → from + n ≡ i → i < length text → m ≡ n + 1 → x ≡ get_or text i x → step_of h x ≡ hash (take m (drop from text))
-hash_more text from n i m h x is_hash is_place l is_more is_point =
-    let inside : n < length (drop from text) = omega (arith, length-drop from text) in
-    ap (λ y. step_of y x) is_hash
-    ∙ ap (λ y. step_of (hash (take n (drop from text))) y) (is_point ∙ ap (λ k. get_or text k x) (sym is_place) ∙ sym (get_or-drop from text n x))
-    ∙ sym (fold_more step_of 0 (drop from text) n x inside)
-    ∙ ap (λ k. hash (take k (drop from text))) (sym is_more)
-
--- the last place at which the part may stand
-pub tail_stands : (part text : List ℕ) (last : ℕ) (b : Bool) → length text - last ≡ length part → b ≡ pointwise nat_eq (take (length text - last) (drop last text)) part → b ≡ begins_with part (drop last text)
-tail_stands part text last b l e =
-    let same = slice_eq-Decides Decides-eqb (take (length text - last) (drop last text)) part b e in
-    begins_with_is part (drop last text) b (λ h. ap (λ n. take n (drop last text)) (sym l) ∙ same.0 h) (λ h. same.1 (ap (λ n. take n (drop last text)) l ∙ h))
-
-pub no_tail : (part text : List ℕ) (i : ℕ) → length part ≤ length text → i ≡ length text - length part → begins_with part (drop i text) ≡ false → None ≡ option_map (λ n. i + n) (first_place part (drop i text))
-no_tail [] text i l e h = let t : true ≡ false = h in cc
-no_tail (p ∷ part) text i l e h =
-    no_place (p ∷ part) text (i + 1) (omega arith) ∙ sym (place_moves (p ∷ part) text i (omega arith) h)
 
 -- ---- what the loops leave
 

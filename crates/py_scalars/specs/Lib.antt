@@ -1,6 +1,6 @@
 pub mod Answers
 pub mod Exact
-pub mod Hash
 pub mod NumberForm
+pub mod Plan
 pub mod Search
 pub mod TextForm

@@ -1,9 +1,10 @@
 // Where a part stands in a text, after the text methods of the Python library reference.
-ghost use Rattle.std.specs.Prelude.{◌≡◌, ◌<◌, ◌≤◌, ◌+◌, ◌*◌, ◌%◌, ◌^◌, List, [], ◌∷◌, ◌++◌, true, filter, length, drop, option_map, slice_range, IfOk, IfSome, OnOk};
+ghost use Rattle.std.specs.Prelude.{◌≡◌, ◌≢◌, ◌↔◌, ◌<◌, ◌≤◌, ◌+◌, ℕ, List, [], ◌∷◌, ◌++◌, filter, length, drop, option_map, slice_range, IfOk, IfSome, IsTrue, OnOk};
 ghost use Rattle.std.specs.List.{prefix_len, suffix_len};
 ghost use Rattle.std.specs.Char.{is_whitespace};
-ghost use Rattle.py_scalars.specs.Search.{begins_with, first_place, is_filled, pieces, words, stripped, replaced};
-ghost use Rattle.py_scalars.specs.Hash.{hash, step_of};
+ghost use Rattle.py_scalars.specs.Search.{first_place, is_filled, pieces, words, stripped, replaced};
+ghost use Rattle.py_scalars.specs.Plan.{Precedes, point_of, IsPlan};
+ghost use Rattle.memchr.specs.Critical.{IsSuffixAt, IsCutPlace};
 
 use flow_base::{NoMemory, PyText, Shared};
 use std::alloc::Global;
@@ -12,11 +13,12 @@ use std::alloc::Global;
 pub type Texts = Shared<PyText>;
 
 /// The first place, from 0, at which the part stands; 0 for an empty part. Takes no memory, and looks at most twice at
-/// each code point unless two different parts have one hash.
+/// each code point of the text, whatever it is.
 pub fn find(t: &PyText, part: &PyText) -> Option<usize>
     ensures { result ≡ first_place part.now t.now }
 {
-    first_from(t.as_slice(), part.as_slice(), 0)
+    let (text, wanted) = (t.as_slice(), part.as_slice());
+    first_from(text, wanted, plan_for(wanted), 0)
 }
 
 /// What stands between the parts, which must not be empty. A text without the part is its one piece.
@@ -24,9 +26,11 @@ pub fn split(alloc: Global, t: &PyText, part: &PyText) -> Result<Texts, NoMemory
     requires { 0 < length part.now }
     ensures { IfOk result (λ texts. texts ≡ pieces part.now t.now) }
 {
+    let (text, wanted) = (t.as_slice(), part.as_slice());
+    let plan = plan_for(wanted);
     let mut texts = Vec::new(alloc);
     let mut from = 0;
-    while let Some(at) = first_from(t.as_slice(), part.as_slice(), from) {
+    while let Some(at) = first_from(text, wanted, plan, from) {
         texts.push(t.part(alloc, from, at)?)?;
         from = at + part.len();
     }
@@ -86,10 +90,11 @@ pub fn replace(alloc: Global, t: &PyText, a: &PyText, b: &PyText) -> Result<PyTe
     if a.len() == 0 {
         return spread(alloc, t, b);
     }
-    let text = t.as_slice();
+    let (text, wanted) = (t.as_slice(), a.as_slice());
+    let plan = plan_for(wanted);
     let mut out = Vec::new(alloc);
     let mut from = 0;
-    while let Some(at) = first_from(text, a.as_slice(), from) {
+    while let Some(at) = first_from(text, wanted, plan, from) {
         out.extend_from_slice(&text[from..at])?;
         out.extend_from_slice(b.as_slice())?;
         from = at + a.len();
@@ -134,83 +139,140 @@ fn white_end(text: &[char]) -> usize
     text.len() - n
 }
 
-// The numbers that hashes are made of: a prime modulus below 2 ^ 31, and a base.
-const MODULUS: u64 = 2147483647;
-
-const BASE: u64 = 1103515245;
-
-// The hash of a text with one code point more.
-fn step(hash: u64, c: char) -> u64
-    requires { hash < 2147483647 }
-    ensures value { result ≡ step_of hash c }
-    ensures small { result < 2147483647 }
+// Whether a comes before b, in the order of code points or in its reverse.
+fn precedes(reversed: bool, a: char, b: char) -> bool
+    ensures { IsTrue result ↔ Precedes reversed a b }
 {
-    (hash * BASE + c as u64) % MODULUS
+    if reversed { b < a } else { a < b }
 }
 
-fn hash_of(text: &[char]) -> u64
-    ensures value { result ≡ hash text.now }
-    ensures small { result < 2147483647 }
+// The end of a part from a place on, and the least number of places after which it repeats.
+#[derive(Clone, Copy)]
+struct Suffix {
+    start: usize,
+    period: usize,
+}
+
+// The suffix that is greatest by an order. A rival begins whole periods behind it, and as far as they were compared the
+// two have `same` code points in common.
+fn greatest_suffix(part: &[char], reversed: bool) -> Suffix
+    requires { 0 < length part.now }
+    ensures { IsSuffixAt (Precedes reversed) (point_of part.now) (length part.now) result.start result.period }
 {
-    let mut hash = 0;
-    for c in text {
-        hash = step(hash, *c);
+    let (mut start, mut period) = (0, 1);
+    let (mut rival, mut same) = (1, 0);
+    while rival + same < part.len() {
+        let (ours, theirs) = (part[start + same], part[rival + same]);
+        if precedes(reversed, theirs, ours) {
+            rival += same + 1;
+            same = 0;
+            period = rival - start;
+        } else if precedes(reversed, ours, theirs) {
+            start = rival;
+            rival += 1;
+            same = 0;
+            period = 1;
+        } else if same + 1 == period {
+            rival += period;
+            same = 0;
+        } else {
+            same += 1;
+        }
     }
-    hash
+    Suffix { start, period }
 }
 
-// The base to the power n.
-fn scale_of(n: usize) -> u64
-    ensures value { result ≡ 1103515245 ^ n % 2147483647 }
-    ensures small { result < 2147483647 }
+// How a part is looked for. At each place it is compared from the cut on, and then before the cut. A mismatch in the first
+// moves the search on until the cut lies behind it. One in the second moves it by the shift, and there the part's first
+// `kept` code points are known to match.
+#[derive(Clone, Copy)]
+struct Plan {
+    cut: usize,
+    shift: usize,
+    kept: usize,
+}
+
+// Cuts a part at the later of its greatest suffixes by the two orders: what repeats around that place repeats throughout.
+fn plan_for(part: &[char]) -> Plan
+    ensures { IsPlan part.now result.cut result.shift result.kept }
 {
-    let mut scale = 1;
-    for i in 0..n {
-        let _ = i;
-        scale = scale * BASE % MODULUS;
+    if part.is_empty() {
+        return Plan {
+            cut: 0,
+            shift: 1,
+            kept: 0,
+        };
     }
-    scale
+    let least = greatest_suffix(part, true);
+    let most = greatest_suffix(part, false);
+    if least.start > most.start {
+        plan_at(part, least)
+    } else {
+        plan_at(part, most)
+    }
 }
 
-// The first place at or behind `from` at which the part stands. The hashes of what stands before a place and up to the
-// part's end there tell most places at which it does not stand.
-fn first_from(text: &[char], part: &[char], from: usize) -> Option<usize>
-    requires { from ≤ length text.now }
+// Cuts a part at a suffix. The shift is the period of the suffix where that is the part's too, and otherwise no more than
+// the part's.
+fn plan_at(part: &[char], suffix: Suffix) -> Plan
+    requires { IsCutPlace (point_of part.now) (length part.now) suffix.start suffix.period }
+    ensures { IsPlan part.now result.cut result.shift result.kept }
+{
+    let Suffix { start, period } = suffix;
+    let len = part.len();
+    if part[..start] == part[period..period + start] {
+        Plan {
+            cut: start,
+            shift: period,
+            kept: len - period,
+        }
+    } else {
+        Plan {
+            cut: start,
+            shift: start.max(len - start),
+            kept: 0,
+        }
+    }
+}
+
+// The first place, from a start, at which a part differs from the text that it is laid on; its length if there is none.
+fn matched_to(text: &[char], part: &[char], at: usize, start: usize) -> usize
+    requires within { at + length part.now ≤ length text.now }
+    requires from { start ≤ length part.now }
+    ensures low { start ≤ result }
+    ensures high { result ≤ length part.now }
+    ensures same { (k : ℕ) → start ≤ k → k < result → point_of part.now k ≡ point_of text.now (at + k) }
+    ensures differs { result < length part.now → point_of part.now result ≢ point_of text.now (at + result) }
+{
+    let mut i = start;
+    while i < part.len() && part[i] == text[at + i] {
+        i += 1;
+    }
+    i
+}
+
+// The first place at or behind `from` at which the part stands. What was compared behind the cut is not looked at again.
+fn first_from(text: &[char], part: &[char], plan: Plan, from: usize) -> Option<usize>
+    requires start { from ≤ length text.now }
+    requires plan { IsPlan part.now plan.cut plan.shift plan.kept }
     ensures value { result
         ≡ option_map (λ n. from + n) (first_place part.now (drop from text.now)) }
     ensures within { IfSome result (λ at. (from ≤ at) × (at + length part.now ≤ length text.now)) }
 {
-    let len = part.len();
-    if text.len() - from < len {
-        return None;
-    }
-    let goal = hash_of(part);
-    let scale = scale_of(len);
-    let mut before = 0;
-    let mut upto = hash_of(&text[from..from + len]);
-    let last = text.len() - len;
-    for i in from..last {
-        if stands_at(text, part, i, upto, (before * scale + goal) % MODULUS) {
-            return Some(i);
+    let (mut at, mut known) = (from, 0);
+    while at + part.len() <= text.len() {
+        let end = matched_to(text, part, at, plan.cut.max(known));
+        if end < part.len() {
+            at += end - plan.cut + 1;
+            known = 0;
+            continue;
         }
-        before = step(before, text[i]);
-        upto = step(upto, text[i + len]);
+        let known_front = plan.cut.min(known);
+        if part[known_front..plan.cut] == text[at + known_front..at + plan.cut] {
+            return Some(at);
+        }
+        at += plan.shift;
+        known = plan.kept;
     }
-    if &text[last..] == part {
-        Some(last)
-    } else {
-        None
-    }
-}
-
-// Whether the part stands at a place. Where it does, the hash seen there is the wanted one.
-fn stands_at(text: &[char], part: &[char], at: usize, seen: u64, wanted: u64) -> bool
-    requires within { at + length part.now ≤ length text.now }
-    requires tells { begins_with part.now (drop at text.now) ≡ true → seen ≡ wanted }
-    ensures { result ≡ begins_with part.now (drop at text.now) }
-{
-    if seen != wanted {
-        return false;
-    }
-    &text[at..at + part.len()] == part
+    None
 }

@@ -164,6 +164,31 @@ fn places(rt: HostRuntime) -> Result<(), Fail> {
     Ok(())
 }
 
+// Parts that almost stand at many places: they repeat, or differ late.
+#[test]
+fn places_of_repeats(rt: HostRuntime) -> Result<(), Fail> {
+    for (text, part, want) in [
+        ("yxvucypfyxvucypfyxvucypfyxvucypf", "yxvucypfhfphusht", None),
+        (
+            "yxvucypfyxvucypfyxvucypfhfphusht",
+            "yxvucypfhfphusht",
+            Some(16),
+        ),
+        ("aabaabaaaabaabaabaa", "aabaabaabaa", Some(8)),
+        ("aabaabbaabaab", "aabaabaabaa", None),
+        ("aaabaaaabaaaaa", "aaaaa", Some(9)),
+        ("aaaaaaaa", "aaab", None),
+        ("aaaa", "aaaaa", None),
+        ("abaababaabaababaababa", "abaababaababa", Some(8)),
+        ("abacabadabacabae", "abacabae", Some(8)),
+        ("babbabab", "abab", Some(4)),
+        ("éaéaéb", "éaéb", Some(2)),
+    ] {
+        assert_eq!(rt; place(rt.alloc(), text, part)?, want, "{text} {part}");
+    }
+    Ok(())
+}
+
 // The texts with a bar behind each.
 fn barred(a: Global, texts: &Texts) -> Result<String, NoMemory> {
     let mut out = String::new(a);
@@ -190,6 +215,7 @@ fn pieces_of_texts(rt: HostRuntime) -> Result<(), Fail> {
         ("1<>2<>3<4", "<>", "1|2|3<4|"),
         ("", ",", "|"),
         ("aaa", "aa", "|a|"),
+        ("abaabaababaaba", "abaaba", "|ab||"),
     ] {
         assert!(rt;
             pieces(rt.alloc(), text, part)?.as_str() == want,
@@ -230,6 +256,7 @@ fn changed_texts(rt: HostRuntime) -> Result<(), Fail> {
         ("abc", "", "-", "-a-b-c-"),
         ("", "", "x", "x"),
         ("abc", "d", "x", "abc"),
+        ("aabaabaaabaabaa", "aabaa", "x", "xbaxbaa"),
     ] {
         assert!(rt;
             replaced(rt.alloc(), text, old, new)?.as_str() == want,
