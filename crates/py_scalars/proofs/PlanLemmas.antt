@@ -57,16 +57,6 @@ Precedes-read reversed text i j a b in_i in_j is_a is_b h =
 
 -- ---- plans
 
-pub IsPlan-none : (part : List ℕ) → length part ≡ 0 → IsPlan part 0 1 0
-IsPlan-none part none = record {
-  below = omega arith;
-  critical = λ d pos rep k fits. absurd (omega arith);
-  moves = omega arith;
-  fits = omega arith;
-  least = λ d pos short period. absurd (omega arith);
-  keeps = λ k l. absurd (omega arith);
-}
-
 module _ (part : List ℕ) (cut period : ℕ) (h : IsCutPlace (point_of part) (length part) cut period) where
   -- the period of what follows the cut is the part's
   pub IsPlan-periodic : ((k : ℕ) → k < cut → point_of part k ≡ point_of part (k + period)) → IsPlan part cut period (length part - period)

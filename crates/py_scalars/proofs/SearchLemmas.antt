@@ -41,13 +41,6 @@ pub first_place-here : (part text : List ℕ) → begins_with part text ≡ true
 first_place-here part [] h = ap (λ b. cond b (Some 0) None) h
 first_place-here part (c ∷ text) h = ap (λ b. cond b (Some 0) (option_map suc (first_place part text))) h
 
-pub first_place-short : (part text : List ℕ) → length text < length part → first_place part text ≡ None
-first_place-short part [] l =
-    ap (λ b. cond b (Some 0) None) (false_from_ne_true (begins_with part []) (λ e. absurd (omega (arith, (begins_with-take part [] e).0))))
-first_place-short part (c ∷ text) l =
-    ap (λ b. cond b (Some 0) (option_map suc (first_place part text))) (false_from_ne_true (begins_with part (c ∷ text)) (λ e. absurd (omega (arith, (begins_with-take part (c ∷ text) e).0))))
-    ∙ ap (option_map suc) (first_place-short part text (omega arith))
-
 pub first_place-next : (part text : List ℕ) (i : ℕ) → i < length text → begins_with part (drop i text) ≡ false → first_place part (drop i text) ≡ option_map suc (first_place part (drop (suc i) text))
 first_place-next part [] i l h = absurd (omega arith)
 first_place-next part (c ∷ text) zero l h =
@@ -66,9 +59,6 @@ place_moves part text i l h = ap (option_map (λ n. i + n)) (first_place-next pa
 pub place_found : (part text : List ℕ) (i : ℕ) → begins_with part (drop i text) ≡ true → Some i ≡ option_map (λ n. i + n) (first_place part (drop i text))
 place_found part text i h =
     ap (λ m. Some m) (omega arith) ∙ ap (option_map (λ n. i + n)) (sym (first_place-here part (drop i text) h))
-
-pub no_place : (part text : List ℕ) (i : ℕ) → length text - i < length part → None ≡ option_map (λ n. i + n) (first_place part (drop i text))
-no_place part text i l = ap (option_map (λ n. i + n)) (sym (first_place-short part (drop i text) (rw length-drop l)))
 
 -- ---- pieces
 
