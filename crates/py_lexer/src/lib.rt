@@ -1,0 +1,16 @@
+//! The texts of cells cut into tokens, after "Lexical analysis" of the Python language reference. Identifiers follow
+//! Unicode Standard Annex 31. Which texts are tokens, and how a text is cut, is defined in `specs/`.
+#![tactic(auto)]
+
+mod fault;
+mod lexer;
+mod number;
+mod quoted;
+mod sign;
+mod token;
+mod word;
+
+pub use fault::LexFault;
+pub use lexer::{cut_law, lex};
+pub use token::{Token, TokenKind, Tokens};
+
