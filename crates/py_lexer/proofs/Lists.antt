@@ -48,14 +48,18 @@ listed_has p (d ∷ points) c h all =
 
 -- ---- a front
 
+one_more : (n : ℕ) → 1 + n ≡ suc n
+one_more n = omega arith
+
+take_nil : (n : ℕ) → let none : List ℕ = [] in take n none ≡ none
+take_nil zero = refl
+take_nil (suc n) = refl
+
 pub take_add : (m n : ℕ) (text : List ℕ) → take (m + n) text ≡ take m text ++ take n (drop m text)
-take_add zero n text = ap (λ k. take k text) (omega arith)
+take_add zero n text = let e : 0 + n ≡ n = omega arith in ap (λ k. take k text) e
 take_add (suc m) n [] =
-    let e : suc m + n ≡ suc (m + n) = omega arith in ap (λ k. take k []) e ∙ sym (take_nil n)
-  where
-    take_nil : (n : ℕ) → take n [] ≡ []
-    take_nil zero = refl
-    take_nil (suc n) = refl
+    let none : List ℕ = [] in
+    let e : suc m + n ≡ suc (m + n) = omega arith in ap (λ k. take k none) e ∙ sym (take_nil n)
 take_add (suc m) n (c ∷ text) =
     let e : suc m + n ≡ suc (m + n) = omega arith in ap (λ k. take k (c ∷ text)) e ∙ ap (λ z. c ∷ z) (take_add m n text)
 
@@ -73,9 +77,6 @@ run_stops p (c ∷ text) =
     (λ e. subst (λ n. Stops p (drop n (c ∷ text))) (sym (cond-true (p c) (1 + prefix_len p text) 0 e ∙ one_more (prefix_len p text))) (run_stops p text))
     (λ e. subst (λ n. Stops p (drop n (c ∷ text))) (sym (cond-false (p c) (1 + prefix_len p text) 0 e)) e)
     (cases_Bool (p c))
-  where
-    one_more : (n : ℕ) → 1 + n ≡ suc n
-    one_more n = omega arith
 
 pub run_passes : (p : ℕ → Bool) (text : List ℕ) → list_all p (take (prefix_len p text) text) ≡ true
 run_passes p [] = refl
@@ -84,9 +85,6 @@ run_passes p (c ∷ text) =
     (λ e. ap (λ n. list_all p (take n (c ∷ text))) (cond-true (p c) (1 + prefix_len p text) 0 e ∙ one_more (prefix_len p text)) ∙ and_from (p c) _ e (run_passes p text))
     (λ e. ap (λ n. list_all p (take n (c ∷ text))) (cond-false (p c) (1 + prefix_len p text) 0 e))
     (cases_Bool (p c))
-  where
-    one_more : (n : ℕ) → 1 + n ≡ suc n
-    one_more n = omega arith
 
 pub run_exact : (p : ℕ → Bool) (front rest : List ℕ) → list_all p front ≡ true → Stops p rest → prefix_len p (front ++ rest) ≡ length front
 run_exact p [] [] h s = refl
