@@ -1,3 +1,6 @@
+pub mod Fronts
 pub mod Lists
 pub mod Numbers
 pub mod Quotes
+pub mod Signs
+pub mod Words

@@ -3,7 +3,7 @@ use Rattle.std.proofs.Common.{◌≡◌, ℕ, zero, suc, ◌+◌, ◌-◌, ◌<�
 use Rattle.std.specs.List.{list_any, list_all, prefix_len}
 use Rattle.std.specs.Char.{digit_value}
 use Rattle.std.proofs.lemmas.Bool.{cases_Bool, or_cases, or_parts, or_from, and_parts, and_from, and_left, or_left, or_right, cond-true, cond-false, eqb-true, eq-eqb, ne_eqb, ltb-true, false_from_ne_true, cases_lt}
-use Rattle.std.proofs.lemmas.List.{append-nil, drop_more, take_all}
+use Rattle.std.proofs.lemmas.List.{append-nil, take_all, length-drop}
 use Rattle.py_scalars.specs.NumberForm.{is_digit, is_spaced, begins_with_digit}
 use Rattle.py_lexer.specs.Form.{joins, is_one_of, one_of, is_digits, is_exponent, is_pointed, is_real, is_unsupported_number}
 use Rattle.py_lexer.specs.Scan.{has_digit, spaced_len, digits_len, begins_with_one, one_len, if_more, signed_len, exponent_len, tail_len, fraction_len, behind_digits_len, real_len}
@@ -718,3 +718,66 @@ real_head (no_point d t h tail l) {c} {more} e = inl (digits_head d t c more h e
 -- it begins with a digit, or with its point and then one
 pub unsupported_head : (c : ℕ) (text : List ℕ) → is_unsupported_number (c ∷ text) ≡ true → (is_digit 10 c ≡ true) ⊎ ((c ≡ 46) × (begins_with_digit 10 text ≡ true))
 unsupported_head c text h = real_head (unsupported_parts (c ∷ text) h) refl
+
+-- ---- what is read is within the text
+
+cond_within : (b : Bool) (x y n : ℕ) → x ≤ n → y ≤ n → cond b x y ≤ n
+cond_within true x y n h k = h
+cond_within false x y n h k = k
+
+if_more_within : (n m : ℕ) → if_more n m ≤ n + m
+if_more_within n zero = omega arith
+if_more_within n (suc m) = omega arith
+
+spaced_within : (base : ℕ) (text : List ℕ) → spaced_len base text ≤ length text
+spaced_within base [] = omega arith
+spaced_within base (c ∷ text) =
+    let more = spaced_within base text in cond_within (has_digit base (c ∷ text)) (1 + spaced_len base text) 0 (length (c ∷ text)) (omega arith) (omega arith)
+
+digits_within : (text : List ℕ) → digits_len text ≤ length text
+digits_within text = cond_within (begins_with_digit 10 text) (spaced_len 10 text) 0 (length text) (spaced_within 10 text) (omega arith)
+
+one_within : (points text : List ℕ) → one_len points text ≤ length text
+one_within points [] = omega arith
+one_within points (c ∷ text) = cond_within (is_one_of points c) 1 0 (length (c ∷ text)) (omega arith) (omega arith)
+
+signed_within : (text : List ℕ) → signed_len text ≤ length text
+signed_within text =
+    let n = one_len (codes "+-") text in
+    omega (arith, one_within (codes "+-") text, digits_within (drop n text), length-drop n text, if_more_within n (digits_len (drop n text)))
+
+exponent_within : (text : List ℕ) → exponent_len text ≤ length text
+exponent_within [] = omega arith
+exponent_within (c ∷ text) =
+    let s = signed_within text in
+    let m = if_more_within 1 (signed_len text) in
+    cond_within (is_one_of (codes "eE") c) (if_more 1 (signed_len text)) 0 (length (c ∷ text)) (omega arith) (omega arith)
+
+tail_within : (text : List ℕ) → tail_len text ≤ length text
+tail_within text =
+    let n = exponent_len text in
+    omega (arith, exponent_within text, one_within (codes "jJ") (drop n text), length-drop n text)
+
+fraction_within : (text : List ℕ) → fraction_len text ≤ length text
+fraction_within text =
+    let n = digits_len text in
+    omega (arith, digits_within text, tail_within (drop n text), length-drop n text)
+
+behind_within : (text : List ℕ) → behind_digits_len text ≤ length text
+behind_within [] = omega arith
+behind_within (c ∷ text) =
+    let f = fraction_within text in
+    cond_within (is_one_of (codes ".") c) (1 + fraction_len text) (tail_len (c ∷ text)) (length (c ∷ text)) (omega arith) (tail_within (c ∷ text))
+
+pub real_within : (text : List ℕ) → real_len text ≤ length text
+real_within [] = omega arith
+real_within (c ∷ text) =
+    let n = digits_len (c ∷ text) in
+    let f = fraction_within text in
+    let b = behind_within (drop n (c ∷ text)) in
+    let d = digits_within (c ∷ text) in
+    let l = length-drop n (c ∷ text) in
+    let m = if_more_within n (behind_digits_len (drop n (c ∷ text))) in
+    cond_within (c == 46) (cond (begins_with_digit 10 text) (1 + fraction_len text) 0) (if_more n (behind_digits_len (drop n (c ∷ text)))) (length (c ∷ text))
+    (cond_within (begins_with_digit 10 text) (1 + fraction_len text) 0 (length (c ∷ text)) (omega arith) (omega arith))
+    (omega arith)

@@ -365,11 +365,11 @@ letter_digits c text rest =
     (λ e. record { more = 0; long = ap (λ z. z.0) (cond-false {A = ℕ × List ℕ} (c == 10) (1, []) (1, rest) e); digits = refl })
     (cases_Bool (c == 10))
 
-chosen : {A : Type 0} (b : Bool) (x y z : A) → cond b x y ≡ z → ((b ≡ true) × (x ≡ z)) ⊎ ((b ≡ false) × (y ≡ z))
+pub chosen : {A : Type 0} (b : Bool) (x y z : A) → cond b x y ≡ z → ((b ≡ true) × (x ≡ z)) ⊎ ((b ≡ false) × (y ≡ z))
 chosen true x y z e = inl (refl, e)
 chosen false x y z e = inr (refl, e)
 
-same_some : {A : Type 0} {x y : A} → Some x ≡ Some y → x ≡ y
+pub same_some : {A : Type 0} {x y : A} → Some x ≡ Some y → x ≡ y
 same_some e = cc
 
 escape_other : (c : ℕ) (text : List ℕ) (e : ℕ × List ℕ) → cond (c == 78) None (Some (letter_escape c)) ≡ Some e → Escape text e.0
