@@ -24,13 +24,27 @@ pub fn lex(alloc: Global, text: &PyText) -> Result<Tokens, LexFault>
     ensures complete { (tokens : List Token) → AreTokens text.now tokens → Gives result (Ok tokens) }
     ensures refused { (line : ℕ) → Stops text.now line → Gives result (Err (LexFault.At line)) }
 {
-    let points = text.as_slice();
+    cut(alloc, text.as_slice())
+}
+
+/// The law of cuts: a text is cut into tokens in one way or stops on one line, and never both.
+pub fn cut_law()
+    ensures one { (text : List ℕ) (ts us : List Token) → AreTokens text ts → AreTokens text us → ts ≡ us }
+    ensures stops { (text : List ℕ) (line other : ℕ) → Stops text line → Stops text other → line ≡ other }
+    ensures not_both { (text : List ℕ) (ts : List Token) (line : ℕ) → AreTokens text ts → Stops text line → ⊥ }
+{}
+
+// Takes the longest token at each place, one after another.
+fn cut(alloc: Global, text: &[char]) -> Result<Tokens, LexFault>
+    requires { length text.now < 2 ^ 32 - 1 }
+    ensures { IsLexed text.now result }
+{
     let mut tokens = Tokens::new(alloc);
     let mut at = 0;
     let mut line = 1;
     let mut nested = 0;
-    while at < points.len() {
-        let rest = &points[at..];
+    while at < text.len() {
+        let rest = &text[at..];
         let blank = blank_len(nested, rest);
         if 0 < blank {
             line += ends_in(&rest[..blank]);
@@ -53,13 +67,6 @@ pub fn lex(alloc: Global, text: &PyText) -> Result<Tokens, LexFault>
     }
     Ok(tokens)
 }
-
-/// The law of cuts: a text is cut into tokens in one way or stops on one line, and never both.
-pub fn cut_law()
-    ensures one { (text : List ℕ) (ts us : List Token) → AreTokens text ts → AreTokens text us → ts ≡ us }
-    ensures stops { (text : List ℕ) (line other : ℕ) → Stops text line → Stops text other → line ≡ other }
-    ensures not_both { (text : List ℕ) (ts : List Token) (line : ℕ) → AreTokens text ts → Stops text line → ⊥ }
-{}
 
 // The longest token at the front of a text, if one fits.
 fn front(
