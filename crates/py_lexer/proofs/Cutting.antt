@@ -1,7 +1,7 @@
 -- A text is cut in one way.
-use Rattle.std.proofs.Common.{◌≡◌, ◌≢◌, ℕ, zero, suc, ◌+◌, ◌-◌, ◌<◌, ◌≤◌, List, [], ◌∷◌, ◌++◌, length, take, drop, Bool, true, false, cond, ◌&&◌, ◌||◌, ◌==◌, nat_lt, Option, Some, None, Result, Ok, Err, ap, sym, ◌∙◌, refl, subst, ◌⊎◌, inl, inr, ⊎_elim, append_assoc, arith, lit<}
+use Rattle.std.proofs.Common.{◌≡◌, ℕ, zero, suc, ◌+◌, ◌<◌, ◌≤◌, List, [], ◌∷◌, ◌++◌, length, take, drop, false, cond, ◌&&◌, ◌||◌, ◌==◌, nat_lt, None, Result, Ok, Err, ap, sym, ◌∙◌, refl, subst, inl, inr, append_assoc, arith, lit<}
 use Rattle.std.specs.List.{prefix_len}
-use Rattle.std.proofs.lemmas.Bool.{cases_Bool, or_cases, or_parts, or_from, and_parts, cond-true, cond-false, eqb-true, ne_eqb, ltb-true}
+use Rattle.std.proofs.lemmas.Bool.{or_cases, or_from, and_parts, eqb-true, ne_eqb, ltb-true}
 use Rattle.std.proofs.lemmas.List.{append-nil, drop-drop, drop_all, length-take-le, length-drop}
 use Rattle.unicode_ident.specs.Ident.{is_xid_start}
 use Rattle.unicode_ident.proofs.IdentLemmas.{is_xid_start-ascii}
@@ -9,8 +9,8 @@ use Rattle.py_lexer.specs.declared.token.TokenKind.{TokenKind}
 use Rattle.py_lexer.specs.declared.token.Token.{Token}
 use Rattle.py_lexer.specs.declared.fault.LexFault.{LexFault}
 use Rattle.py_lexer.specs.declared.fault.LexFault.TheVariants.{At, NoMemory}
-use Rattle.py_lexer.specs.Form.{is_name_start, kind_of, allowed, token_kind}
-use Rattle.py_lexer.specs.Cut.{IsToken, HasNoToken, IsFront, is_inside_line, begins_with_end, blank_len, Place, start, ends_in, behind, open_after, behind_token, token_at, Cuts, here, blank, token, AreTokens, IsStuck, Stops, IsLexed, Gives}
+use Rattle.py_lexer.specs.Form.{is_name_start, token_kind}
+use Rattle.py_lexer.specs.Cut.{IsToken, HasNoToken, is_inside_line, begins_with_end, blank_len, Place, start, ends_in, behind, open_after, behind_token, token_at, Cuts, here, blank, token, AreTokens, IsStuck, Stops, IsLexed, Gives}
 use Rattle.py_lexer.proofs.Quotes.{chosen, same_some}
 use Rattle.py_lexer.proofs.Signs.{no_sign_space, no_sign_tab, no_sign_hash, no_sign_backslash}
 use Rattle.py_lexer.proofs.Fronts.{no_token, no_token_end}

@@ -1,22 +1,21 @@
 -- The longest token at the front of a text.
-use Rattle.std.proofs.Common.{◌≡◌, ℕ, zero, suc, ◌+◌, ◌-◌, ◌<◌, ◌≤◌, List, [], ◌∷◌, ◌++◌, length, take, drop, get_or, Bool, true, false, cond, ◌&&◌, ◌||◌, ◌==◌, not, nat_lt, Option, Some, None, option_map, Result, Ok, Err, IfOk, ap, sym, ◌∙◌, refl, subst, ◌⊎◌, inl, inr, ⊎_elim, append_assoc, length-append, drop_at, arith, codes, lit<, lit≤}
-use Rattle.std.specs.List.{list_any, list_all, prefix_len}
-use Rattle.std.proofs.lemmas.Bool.{cases_Bool, or_cases, or_parts, or_from, and_parts, and_from, and_cases, and_left, or_left, or_right, cond-true, cond-false, eqb-true, eqb-false, eq-eqb, ne_eqb, ltb-true, ltb-false, lt-ltb, false_from_ne_true, cases_lt}
-use Rattle.std.proofs.lemmas.List.{take-append-drop, length-take-le, length-drop}
+use Rattle.std.proofs.Common.{◌≡◌, ℕ, zero, suc, ◌+◌, ◌<◌, ◌≤◌, List, [], ◌∷◌, length, take, drop, get_or, Bool, true, false, cond, ◌&&◌, ◌==◌, nat_lt, Option, Some, None, option_map, Result, Ok, Err, IfOk, ap, sym, ◌∙◌, refl, subst, ◌⊎◌, inl, inr, ⊎_elim, arith}
+use Rattle.std.specs.List.{list_all, prefix_len}
+use Rattle.std.proofs.lemmas.Bool.{cases_Bool, or_from, and_parts, and_from, and_cases, and_left, cond-true, cond-false, eqb-true, eq-eqb, ne_eqb, ltb-true, ltb-false, false_from_ne_true}
+use Rattle.std.proofs.lemmas.List.{take-append-drop, length-take-le}
 use Rattle.std.proofs.lemmas.List.Sums.{prefix_len-le-length}
-use Rattle.unicode_ident.specs.Ident.{is_xid_start, is_xid_continue}
-use Rattle.unicode_ident.proofs.IdentLemmas.{is_xid_start-ascii}
+use Rattle.unicode_ident.specs.Ident.{is_xid_continue}
 use Rattle.py_scalars.specs.NumberForm.{is_digit, begins_with_digit}
 use Rattle.py_lexer.specs.declared.token.TokenKind.{TokenKind}
 use Rattle.py_lexer.specs.declared.token.TokenKind.TheVariants.{Word, Number, Text, Op, LineEnd, Unsupported}
 use Rattle.py_lexer.specs.Form.{is_name_start, is_name, is_unsupported_word, is_prefixed, is_number, is_unsupported_number, is_quote, is_literal, one_of, is_operator, is_unsupported_sign, word_kind, number_kind, literal_kind, sign_kind, other_kind, kind_of, continues, allowed, token_kind}
-use Rattle.py_lexer.specs.Scan.{real_len, fraction_len, number_front, literal_len, literal_front, word_of, prefixed_len, word_or_prefixed, word_front, sign_front, other_front}
+use Rattle.py_lexer.specs.Scan.{real_len, fraction_len, number_front, literal_len, literal_front, prefixed_len, word_or_prefixed, word_front, sign_front, other_front}
 use Rattle.py_lexer.specs.Cut.{IsToken, HasNoToken, IsFront}
 use Rattle.py_lexer.proofs.Lists.{Stops, run_stops, run_passes, run_exact, run_least}
-use Rattle.py_lexer.proofs.Numbers.{Real, real_bound, real_within, unsupported_parts, real_take, point_take, unsupported_head}
-use Rattle.py_lexer.proofs.Quotes.{Found, Front, IsLiteral, literal_exact, literal_take, chosen, same_some}
-use Rattle.py_lexer.proofs.Words.{name_continues, number_continues, prefixed_exact, prefixed_take, Prefixed}
-use Rattle.py_lexer.proofs.Signs.{no_sign_end, sign_few, point_sign, Signs, AreSigns, signs}
+use Rattle.py_lexer.proofs.Numbers.{real_bound, real_within, unsupported_parts, real_take, point_take, unsupported_head}
+use Rattle.py_lexer.proofs.Quotes.{Found, literal_exact, literal_take, chosen, same_some}
+use Rattle.py_lexer.proofs.Words.{name_continues, number_continues, prefixed_exact, prefixed_take}
+use Rattle.py_lexer.proofs.Signs.{no_sign_end, point_sign, AreSigns, signs}
 
 -- ---- what a place allows
 
@@ -127,15 +126,15 @@ word_is c cs h None e =
     let n = prefix_len is_xid_continue (c ∷ cs) in
     let t : List ℕ = take (prefix_len is_xid_continue (c ∷ cs)) (c ∷ cs) in
     let no : is_prefixed (take (prefix_len is_xid_continue (c ∷ cs)) (c ∷ cs)) ≡ false = false_from_ne_true (is_prefixed t) (λ y.
-        let f = prefixed_exact t (drop n (c ∷ cs)) y in
-        let is : None ≡ Some f.long = sym e ∙ ap prefixed_len (sym (take-append-drop n (c ∷ cs))) ∙ f.is in cc) in
+    let f = prefixed_exact t (drop n (c ∷ cs)) y in
+    let is : None ≡ Some f.long = sym e ∙ ap prefixed_len (sym (take-append-drop n (c ∷ cs))) ∙ f.is in cc) in
     let long : prefix_len is_xid_continue (c ∷ cs) ≡ suc (prefix_len is_xid_continue cs) = cond-true (is_xid_continue c) (1 + prefix_len is_xid_continue cs) 0 (name_continues c h) ∙ omega arith in
     let name : is_name (take (prefix_len is_xid_continue (c ∷ cs)) (c ∷ cs)) ≡ true =
-        ap (λ k. is_name (take k (c ∷ cs))) long ∙ and_from (is_name_start c) (list_all is_xid_continue (take (prefix_len is_xid_continue cs) cs)) h (run_passes is_xid_continue cs) in (
+    ap (λ k. is_name (take k (c ∷ cs))) long ∙ and_from (is_name_start c) (list_all is_xid_continue (take (prefix_len is_xid_continue cs) cs)) h (run_passes is_xid_continue cs) in (
       prefix_len-le-length is_xid_continue (c ∷ cs),
       cond-false (is_prefixed t) (Some Unsupported) (cond (is_name t) (cond (is_unsupported_word t) (Some Unsupported) (Some Word)) None) no
-      ∙ cond-true (is_name t) (cond (is_unsupported_word t) (Some Unsupported) (Some Word)) None name
-      ∙ some_cond (is_unsupported_word t) Unsupported Word,
+          ∙ cond-true (is_name t) (cond (is_unsupported_word t) (Some Unsupported) (Some Word)) None name
+          ∙ some_cond (is_unsupported_word t) Unsupported Word,
     )
 
 word_taken : (c : ℕ) (cs : List ℕ) (n : ℕ) (k : TokenKind) → is_name_start c ≡ true → word_kind (take n (c ∷ cs)) ≡ Some k → kind_of (take n (c ∷ cs)) ≡ Some k
@@ -189,7 +188,7 @@ number_bound nested text m j l e a =
             let same : Number ≡ j = same_some q.1 in
             let stop = allowed_number nested (drop m text) (subst (λ k. allowed nested (drop m text) (Some k) ≡ Some k) (sym same) a) in
             let r : prefix_len is_xid_continue text ≡ length t =
-                ap (prefix_len is_xid_continue) (sym (take-append-drop m text)) ∙ run_exact is_xid_continue t (drop m text) (number_continues t q.0) (stops_from (drop m text) stop) in
+            ap (prefix_len is_xid_continue) (sym (take-append-drop m text)) ∙ run_exact is_xid_continue t (drop m text) (number_continues t q.0) (stops_from (drop m text) stop) in
             inr (omega arith, q.0)
         | inr q ↦ let f = q.1 in cc
       ]
@@ -215,9 +214,9 @@ number_cases nested c cs h d =
     let both = and_parts (is_number whole) (nat_lt u p) b in
     let less = ltb-true u p both.1 in
     let no : is_unsupported_number (take (prefix_len is_xid_continue (c ∷ cs)) (c ∷ cs)) ≡ false = false_from_ne_true (is_unsupported_number whole) (λ y.
-        let r : length whole ≤ real_len (c ∷ cs) = subst (λ z. length whole ≤ real_len z) (take-append-drop p text) (real_bound (unsupported_parts whole y) (drop p text)) in
-        let long = length-take-le p text fits in
-        omega arith) in
+    let r : length whole ≤ real_len (c ∷ cs) = subst (λ z. length whole ≤ real_len z) (take-append-drop p text) (real_bound (unsupported_parts whole y) (drop p text)) in
+    let long = length-take-le p text fits in
+    omega arith) in
     let stop : continues (drop (prefix_len is_xid_continue (c ∷ cs)) (c ∷ cs)) ≡ false = stops_are (drop p text) (run_stops is_xid_continue text) in
     subst (IsFront nested (c ∷ cs)) (sym (cond-true (is_number whole && nat_lt u p) (Some (Number, p)) (cond (nat_lt 0 u) (Some (Unsupported, u)) None) b))
     (make_token nested (c ∷ cs) Number (prefix_len is_xid_continue (c ∷ cs)) fits
@@ -226,10 +225,10 @@ number_cases nested c cs h d =
     (λ m j l f a. ⊎_elim (λ x. omega arith) (λ x. let e = x.0 in omega arith) (number_bound nested text m j l (number_from c cs m j h d f).1 a))))
     (λ (b : (is_number whole && nat_lt u p) ≡ false).
     let short : (m : ℕ) → m ≡ p → is_number (take m (c ∷ cs)) ≡ true → m ≤ u = λ m e y.
-        ⊎_elim
-        (λ (n : is_number whole ≡ false). let k : is_number whole ≡ true = ap (λ z. is_number (take z text)) (sym e) ∙ y in cc)
-        (λ (n : nat_lt u p ≡ false). let k = ltb-false u p n in omega arith)
-        (and_cases (is_number whole) (nat_lt u p) b) in
+    ⊎_elim
+    (λ (n : is_number whole ≡ false). let k : is_number whole ≡ true = ap (λ z. is_number (take z text)) (sym e) ∙ y in cc)
+    (λ (n : nat_lt u p ≡ false). let k = ltb-false u p n in omega arith)
+    (and_cases (is_number whole) (nat_lt u p) b) in
     subst (IsFront nested (c ∷ cs)) (sym (cond-false (is_number whole && nat_lt u p) (Some (Number, p)) (cond (nat_lt 0 u) (Some (Unsupported, u)) None) b))
     (⊎_elim
     (λ (s : nat_lt 0 u ≡ true).

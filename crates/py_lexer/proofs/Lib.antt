@@ -4,4 +4,5 @@ pub mod Lists
 pub mod Numbers
 pub mod Quotes
 pub mod Signs
+pub mod Spans
 pub mod Words

@@ -1,8 +1,7 @@
 -- Fronts of lists, and texts that are joined of two.
-use Rattle.std.proofs.Common.{◌≡◌, ℕ, zero, suc, ◌+◌, ◌-◌, ◌<◌, ◌≤◌, List, [], ◌∷◌, ◌++◌, length, take, drop, Bool, true, false, cond, ◌&&◌, ◌||◌, ◌==◌, ap, sym, ◌∙◌, refl, subst, ◌⊎◌, inl, inr, ⊎_elim, append_assoc, length-append, drop_at, arith}
-use Rattle.std.specs.List.{list_any, list_all, prefix_len}
+use Rattle.std.proofs.Common.{◌≡◌, ℕ, zero, suc, ◌+◌, ◌≤◌, List, [], ◌∷◌, ◌++◌, length, take, drop, Bool, true, false, ◌&&◌, ◌==◌, ap, sym, ◌∙◌, refl, subst, ⊎_elim, arith}
+use Rattle.std.specs.List.{list_all, prefix_len}
 use Rattle.std.proofs.lemmas.Bool.{cases_Bool, or_cases, and_parts, and_from, or_left, or_right, cond-true, cond-false, eqb-true}
-use Rattle.std.proofs.lemmas.List.{append-nil, drop-drop}
 use Rattle.py_lexer.specs.Form.{joins, is_one_of, one_of}
 
 pub joins_from : (p q : List ℕ → Bool) (a b : List ℕ) → p a ≡ true → q b ≡ true → joins p q (a ++ b) ≡ true

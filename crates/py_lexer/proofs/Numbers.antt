@@ -1,13 +1,12 @@
 -- Numbers at the front of a text.
-use Rattle.std.proofs.Common.{◌≡◌, ℕ, zero, suc, ◌+◌, ◌-◌, ◌<◌, ◌≤◌, List, [], ◌∷◌, ◌++◌, length, take, drop, Bool, true, false, cond, ◌&&◌, ◌||◌, ◌==◌, not, nat_lt, ap, sym, ◌∙◌, refl, subst, ◌⊎◌, inl, inr, ⊎_elim, append_assoc, length-append, drop_at, arith, codes, lit<}
-use Rattle.std.specs.List.{list_any, list_all, prefix_len}
-use Rattle.std.specs.Char.{digit_value}
-use Rattle.std.proofs.lemmas.Bool.{cases_Bool, or_cases, or_parts, or_from, and_parts, and_from, and_left, or_left, or_right, cond-true, cond-false, eqb-true, eq-eqb, ne_eqb, ltb-true, false_from_ne_true, cases_lt}
+use Rattle.std.proofs.Common.{◌≡◌, ℕ, zero, suc, ◌+◌, ◌<◌, ◌≤◌, List, [], ◌∷◌, ◌++◌, length, take, drop, Bool, true, false, cond, ◌&&◌, ◌||◌, ◌==◌, not, ap, sym, ◌∙◌, refl, subst, ◌⊎◌, inl, inr, ⊎_elim, append_assoc, length-append, drop_at, arith, codes, lit<}
+use Rattle.std.specs.List.{list_all}
+use Rattle.std.proofs.lemmas.Bool.{cases_Bool, or_cases, or_parts, or_from, and_parts, and_from, and_left, or_left, or_right, cond-true, cond-false, eqb-true, eq-eqb, ne_eqb, false_from_ne_true, cases_lt}
 use Rattle.std.proofs.lemmas.List.{append-nil, take_all, length-drop}
 use Rattle.py_scalars.specs.NumberForm.{is_digit, is_spaced, begins_with_digit}
 use Rattle.py_lexer.specs.Form.{joins, is_one_of, one_of, is_digits, is_exponent, is_pointed, is_real, is_unsupported_number}
 use Rattle.py_lexer.specs.Scan.{has_digit, spaced_len, digits_len, begins_with_one, one_len, if_more, signed_len, exponent_len, tail_len, fraction_len, behind_digits_len, real_len}
-use Rattle.py_lexer.proofs.Lists.{joins_from, Parts, joins_parts, One, one_parts, listed_has, take_add}
+use Rattle.py_lexer.proofs.Lists.{joins_from, joins_parts, one_parts, listed_has, take_add}
 
 -- ---- digits
 
@@ -71,13 +70,13 @@ spaced_take base (c ∷ text) =
     (λ h.
     let front = take (spaced_len base text) text in
     let head : has_digit base (c ∷ take (spaced_len base text) text) ≡ true =
-        ⊎_elim
-        (λ digit. or_left (is_digit base c) ((c == 95) && begins_with_digit base front) digit)
-        (λ gap.
-        let both = and_parts (c == 95) (begins_with_digit base text) gap in
-        or_right (is_digit base c) ((c == 95) && begins_with_digit base front)
-        (and_from (c == 95) (begins_with_digit base front) both.0 (begins_taken base (spaced_len base text) text (digit_first base text both.1) both.1)))
-        (or_cases (is_digit base c) ((c == 95) && begins_with_digit base text) h) in
+    ⊎_elim
+    (λ digit. or_left (is_digit base c) ((c == 95) && begins_with_digit base front) digit)
+    (λ gap.
+    let both = and_parts (c == 95) (begins_with_digit base text) gap in
+    or_right (is_digit base c) ((c == 95) && begins_with_digit base front)
+    (and_from (c == 95) (begins_with_digit base front) both.0 (begins_taken base (spaced_len base text) text (digit_first base text both.1) both.1)))
+    (or_cases (is_digit base c) ((c == 95) && begins_with_digit base text) h) in
     ap (λ n. is_spaced base (take n (c ∷ text))) (cond-true (has_digit base (c ∷ text)) (1 + spaced_len base text) 0 h ∙ one_more (spaced_len base text))
     ∙ and_from (has_digit base (c ∷ front)) (is_spaced base front) head (spaced_take base text))
     (λ h. ap (λ n. is_spaced base (take n (c ∷ text))) (cond-false (has_digit base (c ∷ text)) (1 + spaced_len base text) 0 h))
@@ -296,6 +295,7 @@ exponent_take (x ∷ text) l =
     ap (λ n. is_exponent (take n (x ∷ text))) long ∙ signed_exponent x text h some)
     (λ h. let e = cond-false (is_one_of (codes "eE") x) (if_more 1 (signed_len text)) 0 h in absurd (omega arith))
     (cases_Bool (is_one_of (codes "eE") x))
+
 -- ---- what may follow the digits of a number
 
 pub data Tail : List ℕ → Type 0 where
@@ -372,8 +372,8 @@ fraction_least {t} tail d rest h =
     ⊎_elim
     (λ (l : 0 < length t).
     let f : fraction_len (d ++ (t ++ rest)) ≡ length d + tail_len (t ++ rest) =
-        ap (λ n. n + tail_len (drop n (d ++ (t ++ rest)))) (digits_exact d (t ++ rest) h (tail_no_digit tail rest l))
-        ∙ ap (λ z. length d + tail_len z) (drop_at d (t ++ rest) (length d) refl) in
+    ap (λ n. n + tail_len (drop n (d ++ (t ++ rest)))) (digits_exact d (t ++ rest) h (tail_no_digit tail rest l))
+    ∙ ap (λ z. length d + tail_len z) (drop_at d (t ++ rest) (length d) refl) in
     let m = tail_least tail rest in
     omega arith)
     (λ (l : length t ≤ 0). let m = digits_least d (t ++ rest) h in omega arith)
@@ -427,17 +427,17 @@ real_bound (around_point d b t h k tail) rest =
 real_bound (behind_point b t k tail) rest =
     let e : 46 ∷ ((b ++ t) ++ rest) ≡ 46 ∷ (b ++ (t ++ rest)) = ap (λ z. 46 ∷ z) (append_assoc b t rest) in
     let r : real_len (46 ∷ ((b ++ t) ++ rest)) ≡ 1 + fraction_len (b ++ (t ++ rest)) =
-        ap real_len e ∙ cond-true (begins_with_digit 10 (b ++ (t ++ rest))) (1 + fraction_len (b ++ (t ++ rest))) 0 (digits_begin b (t ++ rest) k) in
+    ap real_len e ∙ cond-true (begins_with_digit 10 (b ++ (t ++ rest))) (1 + fraction_len (b ++ (t ++ rest))) 0 (digits_begin b (t ++ rest) k) in
     let m = fraction_least tail b rest k in
     let f = length-append b t in
     omega arith
 real_bound (no_point d t h tail l) rest =
     let m = tail_least tail rest in
     let b : behind_digits_len (t ++ rest) ≡ tail_len (t ++ rest) =
-        cond-false (begins_with_one (codes ".") (t ++ rest)) (1 + fraction_len (drop 1 (t ++ rest))) (tail_len (t ++ rest))
-        (letters_no_point (codes "eEjJ") (t ++ rest) (tail_begins tail rest l) refl) in
+    cond-false (begins_with_one (codes ".") (t ++ rest)) (1 + fraction_len (drop 1 (t ++ rest))) (tail_len (t ++ rest))
+    (letters_no_point (codes "eEjJ") (t ++ rest) (tail_begins tail rest l) refl) in
     let r : real_len ((d ++ t) ++ rest) ≡ length d + behind_digits_len (t ++ rest) =
-        ap real_len (append_assoc d t rest) ∙ digit_head d (t ++ rest) h (omega arith) (tail_no_digit tail rest l) in
+    ap real_len (append_assoc d t rest) ∙ digit_head d (t ++ rest) h (omega arith) (tail_no_digit tail rest l) in
     let f = length-append d t in
     omega arith
 
@@ -456,7 +456,7 @@ pointed_real p t h tail =
     let point = one_parts (codes ".") parts.behind parts.second in
     let dot = listed_point point.point point.listed in
     let whole : p ++ t ≡ parts.front ++ (46 ∷ t) =
-        ap (λ z. z ++ t) (parts.whole ∙ ap (λ z. parts.front ++ z) (point.whole ∙ ap (λ c. c ∷ []) dot)) ∙ append_assoc parts.front (46 ∷ []) t in
+    ap (λ z. z ++ t) (parts.whole ∙ ap (λ z. parts.front ++ z) (point.whole ∙ ap (λ c. c ∷ []) dot)) ∙ append_assoc parts.front (46 ∷ []) t in
     subst Real (sym whole) (after_point parts.front t parts.first tail))
     (λ b.
     let parts = joins_parts is_digits (joins (one_of (codes ".")) is_digits) p b in
@@ -465,7 +465,7 @@ pointed_real p t h tail =
     let dot = listed_point point.point point.listed in
     let behind : parts.behind ≡ 46 ∷ inner.behind = inner.whole ∙ ap (λ z. z ++ inner.behind) (point.whole ∙ ap (λ c. c ∷ []) dot) in
     let whole : p ++ t ≡ parts.front ++ (46 ∷ (inner.behind ++ t)) =
-        ap (λ z. z ++ t) (parts.whole ∙ ap (λ z. parts.front ++ z) behind) ∙ append_assoc parts.front (46 ∷ inner.behind) t in
+    ap (λ z. z ++ t) (parts.whole ∙ ap (λ z. parts.front ++ z) behind) ∙ append_assoc parts.front (46 ∷ inner.behind) t in
     subst Real (sym whole) (around_point parts.front inner.behind t parts.first inner.second tail))
     (or_cases (joins is_digits (one_of (codes ".")) p) (joins is_digits (joins (one_of (codes ".")) is_digits) p) outer))
     (λ c.
@@ -473,7 +473,7 @@ pointed_real p t h tail =
     let point = one_parts (codes ".") parts.front parts.first in
     let dot = listed_point point.point point.listed in
     let whole : p ++ t ≡ 46 ∷ (parts.behind ++ t) =
-        ap (λ z. z ++ t) (parts.whole ∙ ap (λ z. z ++ parts.behind) (point.whole ∙ ap (λ c. c ∷ []) dot)) in
+    ap (λ z. z ++ t) (parts.whole ∙ ap (λ z. z ++ parts.behind) (point.whole ∙ ap (λ c. c ∷ []) dot)) in
     subst Real (sym whole) (behind_point parts.behind t parts.second tail))
     (or_cases (joins is_digits (one_of (codes ".")) p || joins is_digits (joins (one_of (codes ".")) is_digits) p) (joins (one_of (codes ".")) is_digits p) h)
 
@@ -680,11 +680,11 @@ real_take c text digit l =
     let n = digits_len (c ∷ text) in
     let m = behind_digits_len (drop (digits_len (c ∷ text)) (c ∷ text)) in
     let is : real_len (c ∷ text) ≡ if_more (digits_len (c ∷ text)) (behind_digits_len (drop (digits_len (c ∷ text)) (c ∷ text))) =
-        cond-false (c == 46) (cond (begins_with_digit 10 text) (1 + fraction_len text) 0) (if_more n m)
-        (ne_eqb c 46 (λ e. let f : is_digit 10 46 ≡ true = ap (is_digit 10) (sym e) ∙ digit in cc)) in
+    cond-false (c == 46) (cond (begins_with_digit 10 text) (1 + fraction_len text) 0) (if_more n m)
+    (ne_eqb c 46 (λ e. let f : is_digit 10 46 ≡ true = ap (is_digit 10) (sym e) ∙ digit in cc)) in
     let some : 0 < behind_digits_len (drop (digits_len (c ∷ text)) (c ∷ text)) = if_more_some n m (subst (λ k. 0 < k) is l) in
     let first : 0 < digits_len (c ∷ text) =
-        subst (λ k. 0 < k) (sym (cond-true (is_digit 10 c) (spaced_len 10 (c ∷ text)) 0 digit)) (digit_first 10 (c ∷ text) digit) in
+    subst (λ k. 0 < k) (sym (cond-true (is_digit 10 c) (spaced_len 10 (c ∷ text)) 0 digit)) (digit_first 10 (c ∷ text) digit) in
     ap (λ k. is_unsupported_number (take k (c ∷ text))) (is ∙ if_more_is n m some)
     ∙ ap is_unsupported_number (take_add n m (c ∷ text))
     ∙ behind_take (take n (c ∷ text)) (drop n (c ∷ text)) (digits_take (c ∷ text) first) some

@@ -1,9 +1,9 @@
 -- Literals at the front of a text.
-use Rattle.std.proofs.Common.{◌≡◌, ℕ, zero, suc, ◌+◌, ◌-◌, ◌<◌, ◌≤◌, List, [], ◌∷◌, ◌++◌, length, take, drop, Bool, true, false, cond, ◌&&◌, ◌||◌, ◌==◌, not, nat_lt, nat_le, Option, Some, None, is_some, ap, sym, ◌∙◌, refl, subst, ◌⊎◌, inl, inr, ⊎_elim, append_assoc, length-append, drop_at, arith, codes, lit<, lit≤}
-use Rattle.std.specs.List.{list_any, list_all, prefix_len}
+use Rattle.std.proofs.Common.{◌≡◌, ℕ, zero, suc, ◌+◌, ◌<◌, ◌≤◌, List, [], ◌∷◌, ◌++◌, length, take, drop, Bool, true, false, cond, ◌&&◌, ◌==◌, nat_le, Option, Some, None, is_some, ap, sym, ◌∙◌, refl, subst, ◌⊎◌, inl, inr, ⊎_elim, arith, lit<, lit≤}
+use Rattle.std.specs.List.{list_all, prefix_len}
 use Rattle.std.specs.Char.{digit_value}
-use Rattle.std.proofs.lemmas.Bool.{cases_Bool, or_cases, or_parts, or_from, and_parts, and_from, and_left, and_right, or_left, or_right, cond-true, cond-false, eqb-true, eqb-false, eq-eqb, ne_eqb, ltb-true, lt-ltb, false_from_ne_true, cases_lt, leb-true}
-use Rattle.std.proofs.lemmas.List.{append-nil, take-take, take_at, take-append-drop, nil_from_length, length-take}
+use Rattle.std.proofs.lemmas.Bool.{cases_Bool, or_cases, and_parts, and_from, and_left, and_right, cond-true, cond-false, eqb-true, eq-eqb, ne_eqb, ltb-true, lt-ltb, false_from_ne_true}
+use Rattle.std.proofs.lemmas.List.{take-take, take_at, take-append-drop, nil_from_length, length-take}
 use Rattle.std.proofs.lemmas.List.Sums.{prefix_len-le-length}
 use Rattle.py_scalars.specs.NumberForm.{is_digit}
 use Rattle.py_scalars.specs.Search.{begins_with}
@@ -100,7 +100,7 @@ module _ (quotes : List ℕ) where
       let k : closed_at c t ≡ true = sym (cond-false (begins_with quotes (c ∷ t)) (length t + 1 == length quotes) (closed_at c t) b) ∙ h in
       let long = closed_long false (c ∷ t) h in
       let no : begins_with quotes (c ∷ (t ++ rest)) ≡ false =
-          false_from_ne_true (begins_with quotes (c ∷ (t ++ rest))) (λ y. let z = begins_less quotes (c ∷ t) rest y long in cc) in
+      false_from_ne_true (begins_with quotes (c ∷ (t ++ rest))) (λ y. let z = begins_less quotes (c ∷ t) rest y long in cc) in
       ⊎_elim
       (λ n. let f : false ≡ true = sym (cond-true ((c == 10) && (length quotes == 1)) false (is_closed quotes (c == 92) t) n) ∙ k in cc)
       (λ n.
@@ -145,7 +145,7 @@ module _ (quotes : List ℕ) where
       let s = longer_some 1 n (closed_len quotes (c == 92) text) (sym (cond-false ((c == 10) && (length quotes == 1)) None (longer 1 (closed_len quotes (c == 92) text)) l) ∙ k) in
       closed_next (c == 92) c text s.0 n (closed_take filled (c == 92) text s.0 s.1) s.2 (λ t h.
       let no : begins_with quotes (c ∷ take s.0 text) ≡ false =
-          false_from_ne_true (begins_with quotes (c ∷ take s.0 text)) (λ y. let z = begins_taken quotes (c ∷ text) (suc s.0) y in cc) in
+      false_from_ne_true (begins_with quotes (c ∷ take s.0 text)) (λ y. let z = begins_taken quotes (c ∷ text) (suc s.0) y in cc) in
       cond-false (begins_with quotes (c ∷ take s.0 text)) (length (take s.0 text) + 1 == length quotes) (closed_at c (take s.0 text)) no
       ∙ cond-false ((c == 10) && (length quotes == 1)) false (is_closed quotes (c == 92) (take s.0 text)) l ∙ h))
       (cases_Bool ((c == 10) && (length quotes == 1))))
@@ -297,9 +297,9 @@ quoted_take (q ∷ text) n e =
     (λ (b : begins_with (q ∷ q ∷ []) text ≡ true).
     let w = three q text b in
     let k : or_else (longer 3 (closed_len (q ∷ q ∷ q ∷ []) false (drop 2 text))) (Some 2) ≡ Some n =
-        sym (cond-true (begins_with (q ∷ q ∷ []) text) (or_else (longer 3 (closed_len (q ∷ q ∷ q ∷ []) false (drop 2 text))) (Some 2)) (longer 1 (closed_len (q ∷ []) false text)) b) ∙ of in
+    sym (cond-true (begins_with (q ∷ q ∷ []) text) (or_else (longer 3 (closed_len (q ∷ q ∷ q ∷ []) false (drop 2 text))) (Some 2)) (longer 1 (closed_len (q ∷ []) false text)) b) ∙ of in
     let k' : or_else (longer 3 (closed_len (q ∷ q ∷ q ∷ []) false w.rest)) (Some 2) ≡ Some n =
-        ap (λ z. or_else (longer 3 (closed_len (q ∷ q ∷ q ∷ []) false (drop 2 z))) (Some 2)) (sym w.whole) ∙ k in
+    ap (λ z. or_else (longer 3 (closed_len (q ∷ q ∷ q ∷ []) false (drop 2 z))) (Some 2)) (sym w.whole) ∙ k in
     subst (λ z. Front IsQuoted (q ∷ z) n) (sym w.whole)
     (⊎_elim (λ f. triple_front q w.rest n h f) (λ two. two_front q w.rest n h two) (or_else_cases (longer 3 (closed_len (q ∷ q ∷ q ∷ []) false w.rest)) n k')))
     (λ (b : begins_with (q ∷ q ∷ []) text ≡ false).
@@ -349,7 +349,7 @@ hex_digits n text e h =
     (λ s.
     let both = and_parts (list_all is_hex (take n text)) (is_scalar (digits_value_after 16 0 (take n text))) s in
     let m : Some (suc n, digits_value_after 16 0 (take n text) ∷ []) ≡ Some e =
-        sym (ap (code_escape n) (cond-true (list_all is_hex (take n text) && is_scalar (digits_value_after 16 0 (take n text))) (Some (digits_value_after 16 0 (take n text))) None s)) ∙ k in
+    sym (ap (code_escape n) (cond-true (list_all is_hex (take n text) && is_scalar (digits_value_after 16 0 (take n text))) (Some (digits_value_after 16 0 (take n text))) None s)) ∙ k in
     let same : (suc n, digits_value_after 16 0 (take n text) ∷ []) ≡ e = cc in
     record { more = n; long = sym (ap (λ z. z.0) same); digits = both.0 })
     (λ s.
@@ -437,10 +437,10 @@ module _ (q : ℕ) (qs : List ℕ) (is : is_quote q ≡ true) where
   digit_passed : (c : ℕ) (text : List ℕ) → is_hex c ≡ true → is_closed (q ∷ qs) false text ≡ true → is_closed (q ∷ qs) false (c ∷ text) ≡ true
   digit_passed c text h k =
       let no_quote : (q == c) ≡ false = ne_eqb q c (λ e.
-          elim (or_cases (q == 39) (q == 34) is) [
-            | inl p ↦ let f : is_hex 39 ≡ true = ap is_hex (sym (eqb-true q 39 p) ∙ e) ∙ h in cc
-            | inr p ↦ let f : is_hex 34 ≡ true = ap is_hex (sym (eqb-true q 34 p) ∙ e) ∙ h in cc
-          ]) in
+      elim (or_cases (q == 39) (q == 34) is) [
+        | inl p ↦ let f : is_hex 39 ≡ true = ap is_hex (sym (eqb-true q 39 p) ∙ e) ∙ h in cc
+        | inr p ↦ let f : is_hex 34 ≡ true = ap is_hex (sym (eqb-true q 34 p) ∙ e) ∙ h in cc
+      ]) in
       let no_end : (c == 10) ≡ false = ne_eqb c 10 (λ e. let f : is_hex 10 ≡ true = ap is_hex (sym e) ∙ h in cc) in
       let no_backslash : (c == 92) ≡ false = ne_eqb c 92 (λ e. let f : is_hex 92 ≡ true = ap is_hex (sym e) ∙ h in cc) in
       cond-false (begins_with (q ∷ qs) (c ∷ text)) (length text + 1 == length (q ∷ qs)) (closed_at (q ∷ qs) c text) (and_left (q == c) (begins_with qs text) no_quote)
@@ -522,8 +522,8 @@ literal_exact q t rest quote h =
     (λ (b : begins_with (q ∷ q ∷ []) t ≡ true).
     let w = three q t b in
     let k : is_closed (q ∷ q ∷ q ∷ []) false w.rest ≡ true =
-        ap (λ z. is_closed (q ∷ q ∷ q ∷ []) false (drop 2 z)) (sym w.whole)
-        ∙ sym (cond-true (begins_with (q ∷ q ∷ []) t) (is_closed (q ∷ q ∷ q ∷ []) false (drop 2 t)) (is_closed (q ∷ []) false t) b) ∙ both.1 in
+    ap (λ z. is_closed (q ∷ q ∷ q ∷ []) false (drop 2 z)) (sym w.whole)
+    ∙ sym (cond-true (begins_with (q ∷ q ∷ []) t) (is_closed (q ∷ q ∷ q ∷ []) false (drop 2 t)) (is_closed (q ∷ []) false t) b) ∙ both.1 in
     let long : 3 + length w.rest ≡ length (q ∷ t) = omega (arith, ap (λ z. length (q ∷ z)) w.whole) in
     found_from (literal_len (q ∷ (t ++ rest))) (length (q ∷ t))
     (literal_triple q (t ++ rest) (begins_more (q ∷ q ∷ []) t rest b)
@@ -574,9 +574,9 @@ literal_take q text n h e =
           let r = triple_front q w.rest n h (ap (λ z. longer 3 (closed_len (q ∷ q ∷ q ∷ []) false (drop 2 z))) (sym w.whole) ∙ k.0) in
           record { within = let l = r.within in let m = ap (λ z. length (q ∷ z)) w.whole in omega arith; is = k.1 }
       | inr two ↦ record {
-          within = let m = ap (λ z. length (q ∷ z)) w.whole in omega arith;
-          is = ap (λ m. is_literal (take m (q ∷ text))) two ∙ ap (λ z. is_literal (take 2 (q ∷ z))) w.whole ∙ two_literal q h;
-        }
+        within = let m = ap (λ z. length (q ∷ z)) w.whole in omega arith;
+        is = ap (λ m. is_literal (take m (q ∷ text))) two ∙ ap (λ z. is_literal (take 2 (q ∷ z))) w.whole ∙ two_literal q h;
+      }
     ])
     (λ (b : begins_with (q ∷ q ∷ []) text ≡ false).
     let k = if_literal_some (q ∷ text) (longer 1 (closed_len (q ∷ []) false text)) n (sym (literal_single q text b) ∙ e) in

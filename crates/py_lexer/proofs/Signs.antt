@@ -1,9 +1,9 @@
 -- Signs at the front of a text.
-use Rattle.std.proofs.Common.{◌≡◌, ℕ, zero, suc, ◌+◌, ◌<◌, ◌≤◌, List, [], ◌∷◌, ◌++◌, length, take, drop, Bool, true, false, ◌&&◌, ◌==◌, if◌then◌else◌, Option, Some, None, option_map, ap, sym, ◌∙◌, refl, subst, arith}
+use Rattle.std.proofs.Common.{◌≡◌, ℕ, zero, suc, ◌≤◌, List, [], ◌∷◌, length, take, false, ◌&&◌, ◌==◌, if◌then◌else◌, Option, Some, None, option_map, ap, refl, arith}
 use Rattle.py_lexer.specs.declared.token.TokenKind.{TokenKind}
 use Rattle.py_lexer.specs.declared.token.TokenKind.TheVariants.{Unsupported}
-use Rattle.py_lexer.specs.Form.{is_operator, is_unsupported_sign, sign_kind}
-use Rattle.py_lexer.specs.Scan.{or_else, sign_of_one, sign_of_two, sign_of_three, sign_front}
+use Rattle.py_lexer.specs.Form.{sign_kind}
+use Rattle.py_lexer.specs.Scan.{or_else, sign_front}
 
 -- ---- what begins no sign
 

@@ -1,18 +1,17 @@
 -- Names, literals with a prefix, and the letters of numbers.
-use Rattle.std.proofs.Common.{◌≡◌, ℕ, zero, suc, ◌+◌, ◌-◌, ◌<◌, ◌≤◌, List, [], ◌∷◌, ◌++◌, length, take, drop, Bool, true, false, cond, ◌&&◌, ◌||◌, ◌==◌, not, nat_lt, Option, Some, None, is_some, ap, sym, ◌∙◌, refl, subst, ◌⊎◌, inl, inr, ⊎_elim, append_assoc, length-append, drop_at, arith, codes, lit<, lit≤}
-use Rattle.std.specs.List.{list_any, list_all, prefix_len}
+use Rattle.std.proofs.Common.{◌≡◌, ℕ, zero, suc, ◌+◌, ◌-◌, ◌<◌, ◌≤◌, List, [], ◌∷◌, ◌++◌, length, take, drop, Bool, true, false, cond, ◌&&◌, ◌||◌, ◌==◌, not, nat_lt, Option, Some, None, is_some, ap, sym, ◌∙◌, refl, subst, ◌⊎◌, inl, inr, ⊎_elim, append_assoc, length-append, drop_at, arith, lit<, lit≤}
+use Rattle.std.specs.List.{list_all, prefix_len}
 use Rattle.std.specs.Char.{digit_value, is_ascii_alphanumeric}
-use Rattle.std.proofs.lemmas.Bool.{cases_Bool, or_cases, or_parts, and_parts, and_from, or_left, or_right, cond-true, cond-false, eqb-true, ne_eqb, ltb-true, lt-ltb, false_from_ne_true, cases_lt, agree_below_at, le-ltb}
+use Rattle.std.proofs.lemmas.Bool.{cases_Bool, or_cases, and_parts, and_from, cond-true, cond-false, eqb-true, ltb-true, lt-ltb, cases_lt, agree_below_at, le-ltb}
 use Rattle.std.proofs.lemmas.List.{take-append-drop, length-take-le, length-drop}
 use Rattle.std.proofs.lemmas.List.Sums.{prefix_len-le-length}
 use Rattle.unicode_ident.specs.Ident.{is_xid_start, is_xid_continue}
-use Rattle.unicode_ident.proofs.IdentLemmas.{is_xid_start-ascii, is_xid_continue-ascii, is_xid_start-is_xid_continue}
-use Rattle.py_scalars.specs.NumberForm.{is_digit, is_spaced, begins_with_digit, number_of, based, base_behind, base_of, decimal_form, is_filled, is_zeros, spaced_value}
-use Rattle.py_lexer.specs.declared.token.TokenKind.{TokenKind}
-use Rattle.py_lexer.specs.Form.{is_name_start, is_name, is_number, is_quote, is_quoted, is_prefix_letter, is_prefix, is_prefixed, joins}
-use Rattle.py_lexer.specs.Scan.{longer, quoted_len, prefixed_len, word_or_prefixed, word_front}
-use Rattle.py_lexer.proofs.Lists.{joins_from, Parts, joins_parts, take_add, Stops, run_stops, run_passes, run_exact, run_least, run_most}
-use Rattle.py_lexer.proofs.Quotes.{Found, Front, IsQuoted, quoted_exact, quoted_take, chosen}
+use Rattle.unicode_ident.proofs.IdentLemmas.{is_xid_continue-ascii, is_xid_start-is_xid_continue}
+use Rattle.py_scalars.specs.NumberForm.{is_digit, is_spaced, begins_with_digit, based, base_behind, base_of, decimal_form, is_filled, is_zeros, spaced_value}
+use Rattle.py_lexer.specs.Form.{is_name_start, is_number, is_quote, is_quoted, is_prefix_letter, is_prefix, is_prefixed}
+use Rattle.py_lexer.specs.Scan.{longer, quoted_len, prefixed_len}
+use Rattle.py_lexer.proofs.Lists.{joins_from, joins_parts, take_add, Stops, run_passes, run_exact, run_most}
+use Rattle.py_lexer.proofs.Quotes.{Found, Front, quoted_exact, quoted_take, chosen}
 
 -- ---- code points
 
@@ -149,10 +148,10 @@ prefixed_exact t rest h =
     let whole : t ++ rest ≡ p.front ++ (p.behind ++ rest) = ap (λ z. z ++ rest) p.whole ∙ append_assoc p.front p.behind rest in
     let run : prefix_len is_prefix_letter (p.front ++ (p.behind ++ rest)) ≡ length p.front = run_exact is_prefix_letter p.front (p.behind ++ rest) both.1 (quoted_stops p.behind rest p.second) in
     let is : prefixed_len (t ++ rest) ≡ longer (length p.front) (quoted_len (p.behind ++ rest)) =
-        ap prefixed_len whole
-        ∙ ap (λ n. cond (nat_lt 0 n) (longer n (quoted_len (drop n (p.front ++ (p.behind ++ rest))))) None) run
-        ∙ cond-true (nat_lt 0 (length p.front)) (longer (length p.front) (quoted_len (drop (length p.front) (p.front ++ (p.behind ++ rest))))) None (lt-ltb 0 (length p.front) (filled_long p.front both.0))
-        ∙ ap (λ z. longer (length p.front) (quoted_len z)) (drop_at p.front (p.behind ++ rest) (length p.front) refl) in
+    ap prefixed_len whole
+    ∙ ap (λ n. cond (nat_lt 0 n) (longer n (quoted_len (drop n (p.front ++ (p.behind ++ rest))))) None) run
+    ∙ cond-true (nat_lt 0 (length p.front)) (longer (length p.front) (quoted_len (drop (length p.front) (p.front ++ (p.behind ++ rest))))) None (lt-ltb 0 (length p.front) (filled_long p.front both.0))
+    ∙ ap (λ z. longer (length p.front) (quoted_len z)) (drop_at p.front (p.behind ++ rest) (length p.front) refl) in
     let long : length t ≡ length p.front + length p.behind = ap length p.whole ∙ length-append p.front p.behind in
     let f = longer_found (length p.front) (length p.behind) (quoted_len (p.behind ++ rest)) (quoted_exact p.behind rest p.second) in
     record { long = f.long; is = is ∙ f.is; least = let l = f.least in omega arith }
@@ -200,7 +199,7 @@ prefixed_take text n e =
     let some = ltb-true 0 (prefix_len is_prefix_letter text) l in
     let whole : text ≡ take (prefix_len is_prefix_letter text) text ++ (q.quote ∷ q.rest) = sym (take-append-drop p text) ∙ ap (λ z. take p text ++ z) q.whole in
     let name : prefix_len is_xid_continue text ≤ length (take (prefix_len is_prefix_letter text) text) =
-        subst (λ z. prefix_len is_xid_continue z ≤ length (take (prefix_len is_prefix_letter text) text)) (sym whole) (run_most is_xid_continue (take p text) q.quote q.rest (quote_ends q.quote q.is)) in
+    subst (λ z. prefix_len is_xid_continue z ≤ length (take (prefix_len is_prefix_letter text) text)) (sym whole) (run_most is_xid_continue (take p text) q.quote q.rest (quote_ends q.quote q.is)) in
     let long = length-take-le p text fits in
     record {
       front = record {

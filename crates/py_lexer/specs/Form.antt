@@ -1,5 +1,5 @@
 -- Which texts are tokens, and of which kind.
-use Rattle.std.specs.Prelude.{ℕ, zero, suc, ◌+◌, List, [], ◌∷◌, length, Bool, true, false, ◌==◌, ◌&&◌, ◌||◌, Option, Some, None, is_some, if◌then◌else◌, codes, bytes_eq, drop}
+use Rattle.std.specs.Prelude.{ℕ, ◌+◌, List, [], ◌∷◌, length, Bool, true, false, ◌==◌, ◌&&◌, ◌||◌, Option, Some, None, is_some, if◌then◌else◌, codes, bytes_eq, drop}
 use Rattle.std.specs.List.{list_any, list_all}
 use Rattle.unicode_ident.specs.Ident.{is_xid_start, is_xid_continue}
 use Rattle.py_scalars.specs.NumberForm.{is_digit, is_spaced, number_of, is_filled}

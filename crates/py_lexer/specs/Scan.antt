@@ -5,7 +5,7 @@ use Rattle.unicode_ident.specs.Ident.{is_xid_continue}
 use Rattle.py_scalars.specs.NumberForm.{is_digit, begins_with_digit}
 use Rattle.py_scalars.specs.Search.{begins_with}
 use Rattle.py_lexer.specs.declared.token.TokenKind.{TokenKind}
-use Rattle.py_lexer.specs.declared.token.TokenKind.TheVariants.{Word, Number, Text, Op, LineEnd, Unsupported}
+use Rattle.py_lexer.specs.declared.token.TokenKind.TheVariants.{Word, Number, Text, LineEnd, Unsupported}
 use Rattle.py_lexer.specs.Form.{is_one_of, is_prefix_letter, is_quote, is_unsupported_word, is_number, is_literal, sign_kind}
 
 -- ---- digits

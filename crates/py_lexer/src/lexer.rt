@@ -1,8 +1,9 @@
 // A text cut into tokens.
-ghost use Rattle.std.specs.Prelude.{◌≡◌, ◌≤◌, ◌<◌, ◌+◌, ◌-◌, ◌^◌, ℕ, List, [], length, IfOk, Ok, Err};
+ghost use Rattle.std.specs.Prelude.{◌≡◌, ◌≤◌, ◌<◌, ◌+◌, ◌-◌, ◌^◌, ℕ, List, length, IfOk, Ok, Err};
 ghost use Rattle.std.specs.List.{prefix_len};
 ghost use Rattle.py_lexer.specs.declared.token.Token.{Token};
 ghost use Rattle.py_lexer.specs.Scan.{other_front};
+ghost use Rattle.py_lexer.specs.Span.{AreSpans};
 ghost use Rattle.py_lexer.specs.Cut.{AreTokens, Stops, IsLexed, Gives, IsFront, blank_len, is_inside_line, begins_with_end, ends_in, open_after};
 
 use crate::fault::LexFault;
@@ -32,6 +33,12 @@ pub fn cut_law()
     ensures one { (text : List ℕ) (ts us : List Token) → AreTokens text ts → AreTokens text us → ts ≡ us }
     ensures stops { (text : List ℕ) (line other : ℕ) → Stops text line → Stops text other → line ≡ other }
     ensures not_both { (text : List ℕ) (ts : List Token) (line : ℕ) → AreTokens text ts → Stops text line → ⊥ }
+{}
+
+/// The law of spans: the tokens of a text stand one behind another, each is as its kind says, and its line is that of its
+/// first code point.
+pub fn span_law()
+    ensures { (text : List ℕ) (tokens : List Token) → AreTokens text tokens → AreSpans text 0 tokens }
 {}
 
 // Takes the longest token at each place, one after another.

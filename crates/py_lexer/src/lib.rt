@@ -11,6 +11,8 @@ mod token;
 mod word;
 
 pub use fault::LexFault;
-pub use lexer::{cut_law, lex};
+pub use lexer::{cut_law, lex, span_law};
 pub use token::{Token, TokenKind, Tokens};
 
+#[cfg(test)]
+mod tests;

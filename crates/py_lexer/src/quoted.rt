@@ -29,7 +29,11 @@ fn literal_len(alloc: Global, text: &[char]) -> Result<Option<usize>, NoMemory>
         return Ok(None);
     };
     if !begins_with_two(rest, *quote) {
-        return if_literal(alloc, text, longer(1, closed_len([*quote].as_slice(), rest)));
+        return if_literal(
+            alloc,
+            text,
+            longer(1, closed_len([*quote].as_slice(), rest)),
+        );
     }
     let closed = closed_len([*quote, *quote, *quote].as_slice(), &rest[2..]);
     match if_literal(alloc, text, longer(3, closed))? {
@@ -39,11 +43,7 @@ fn literal_len(alloc: Global, text: &[char]) -> Result<Option<usize>, NoMemory>
 }
 
 // The length where it is that of a literal, with its escapes.
-fn if_literal(
-    alloc: Global,
-    text: &[char],
-    found: Option<usize>,
-) -> Result<Option<usize>, NoMemory>
+fn if_literal(alloc: Global, text: &[char], found: Option<usize>) -> Result<Option<usize>, NoMemory>
     requires { IfSome found (λ n. n ≤ length text.now) }
     ensures { IfOk result (λ answer. answer ≡ if_literal text.now found) }
 {

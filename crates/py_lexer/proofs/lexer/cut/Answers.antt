@@ -1,7 +1,7 @@
-use Rattle.std.proofs.Common.{rules, ◌≡◌, ◌≤◌, ◌<◌, ◌+◌, ◌-◌, ◌^◌, ℕ, List, [], ◌∷◌, ◌++◌, None, length, take, drop, ap, sym, ◌∙◌, subst, arith}
+use Rattle.std.proofs.Common.{◌≡◌, ◌≤◌, ◌+◌, ◌-◌, [], ◌∷◌, ◌++◌, None, length, take, drop, ap, sym, ◌∙◌, subst, arith}
 use Rattle.std.proofs.lemmas.List.{take_rest, length-drop, length-take-le}
-use Rattle.py_lexer.specs.Cut.{AreTokens, Stops, IsLexed, IsFront, IsToken, blank_len, ends_in, open_after, token_at}
-use Rattle.py_lexer.proofs.Cutting.{SoFar, place, begins, after_blank, after_token, found_at_end, stops_here, filled}
+use Rattle.py_lexer.specs.Cut.{IsFront, IsToken, blank_len, ends_in, open_after, token_at}
+use Rattle.py_lexer.proofs.Cutting.{SoFar, place, after_blank, after_token, found_at_end, stops_here, filled}
 use Rattle.py_lexer.proofs.lexer.cut.Goals as goal
 
 pub loop-at-preserved-then-blank-gt0 : goal.loop-at-preserved-then-blank-gt0
@@ -41,7 +41,7 @@ loop-at-preserved c =
     let kind = c.in-Some.kind in
     let rest : take (length c.args.text.now - c.loop-at.at) (drop c.loop-at.at c.args.text.now) ≡ drop c.loop-at.at c.args.text.now = take_rest text l.at in
     let found : IsToken c.loop-at.nested (drop c.loop-at.at c.args.text.now) c.in-Some.kind c.in-Some.n =
-        subst (λ z. IsToken c.loop-at.nested z c.in-Some.kind c.in-Some.n) rest (subst (λ z. IsFront c.loop-at.nested (take (length c.args.text.now - c.loop-at.at) (drop c.loop-at.at c.args.text.now)) z) c.in-Some.is c.in_ok-kind.ensures) in
+    subst (λ z. IsToken c.loop-at.nested z c.in-Some.kind c.in-Some.n) rest (subst (λ z. IsFront c.loop-at.nested (take (length c.args.text.now - c.loop-at.at) (drop c.loop-at.at c.args.text.now)) z) c.in-Some.is c.in_ok-kind.ensures) in
     let some = filled l.nested (drop l.at text) kind n found in
     let room = found.within in
     let left = length-drop l.at text in

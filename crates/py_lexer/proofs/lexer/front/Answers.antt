@@ -1,4 +1,4 @@
-use Rattle.std.proofs.Common.{◌≡◌, ℕ, ◌<◌, List, length, ap, sym, ◌∙◌, subst, arith}
+use Rattle.std.proofs.Common.{sym, ◌∙◌, subst, arith}
 use Rattle.py_lexer.specs.Cut.{IsFront, IsToken}
 use Rattle.py_lexer.specs.Scan.{literal_front}
 use Rattle.py_lexer.proofs.Fronts.{word_is_front, number_is_front, literal_is_front, other_is_front, if_ok_same}

@@ -1,6 +1,6 @@
-use Rattle.std.proofs.Common.{◌≡◌, ◌+◌, drop, true, ap, sym, ◌∙◌, arith}
+use Rattle.std.proofs.Common.{◌≡◌, drop, true, ap, sym, ◌∙◌, arith}
 use Rattle.std.proofs.lemmas.List.{take_rest}
-use Rattle.py_lexer.specs.Scan.{has_digit, spaced_len}
+use Rattle.py_lexer.specs.Scan.{has_digit}
 use Rattle.py_lexer.proofs.Numbers.{spaced_step}
 use Rattle.py_lexer.proofs.number.spaced_len.Goals as goal
 

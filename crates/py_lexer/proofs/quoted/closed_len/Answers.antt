@@ -1,4 +1,4 @@
-use Rattle.std.proofs.Common.{◌≡◌, ◌+◌, drop, true, false, ap, sym, ◌∙◌, arith}
+use Rattle.std.proofs.Common.{◌+◌, drop, false, ap, sym, ◌∙◌, arith}
 use Rattle.py_lexer.specs.Scan.{closed_len, longer}
 use Rattle.py_lexer.proofs.Quotes.{closed_behind, longer_more}
 use Rattle.py_lexer.proofs.quoted.closed_len.Goals as goal
@@ -10,7 +10,7 @@ loop-at-preserved-then-behind c =
     let at = c.loop-at.at in (
       omega arith,
       sym (longer_more at (closed_len quotes false (drop (at + 1) text)))
-      ∙ ap (longer at) (sym (closed_behind quotes text at c.loop-at-test.true))
-      ∙ ap (λ b. longer at (closed_len quotes b (drop at text))) (sym c.if-behind.true)
-      ∙ c.loop-at.invariant.1,
+          ∙ ap (longer at) (sym (closed_behind quotes text at c.loop-at-test.true))
+          ∙ ap (λ b. longer at (closed_len quotes b (drop at text))) (sym c.if-behind.true)
+          ∙ c.loop-at.invariant.1,
     )

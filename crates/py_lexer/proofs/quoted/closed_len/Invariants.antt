@@ -1,4 +1,4 @@
-use Rattle.std.proofs.Common.{◌≡◌, ◌≤◌, ◌+◌, ◌-◌, length, drop, false}
+use Rattle.std.proofs.Common.{◌≡◌, ◌≤◌, ◌-◌, length, drop, false}
 use Rattle.py_lexer.specs.Scan.{closed_len, longer}
 use Rattle.py_lexer.proofs.quoted.closed_len.Given as goal
 
