@@ -1,0 +1,12 @@
+//! Tokens put into logical lines with their depths, after "Line structure" of the Python language reference. The definition
+//! stands in `specs/`.
+#![tactic(auto)]
+
+mod fault;
+mod layouter;
+mod line;
+mod stack;
+
+pub use fault::LayoutFault;
+pub use layouter::{layout, layout_law};
+pub use line::{Lines, LogicalLine};
