@@ -1,12 +1,12 @@
 -- Tokens are put into lines in one way.
-use Rattle.std.proofs.Common.{◌≡◌, ◌≢◌, ℕ, zero, suc, ◌+◌, ◌-◌, ◌<◌, ◌≤◌, List, [], ◌∷◌, ◌++◌, length, take, drop, get_or, filter, Bool, true, false, cond, ◌==◌, not, nat_lt, nat_le, Option, Some, None, option_and_then, Result, Ok, Err, ap, sym, ◌∙◌, refl, subst, append_assoc, arith}
+use Rattle.std.proofs.Common.{◌≡◌, ℕ, zero, suc, ◌+◌, ◌<◌, ◌≤◌, List, [], ◌∷◌, ◌++◌, length, drop, get_or, filter, Bool, true, false, cond, ◌==◌, not, nat_lt, nat_le, Option, Some, None, option_and_then, Result, Ok, Err, ap, sym, ◌∙◌, refl, subst, append_assoc, arith}
 use Rattle.std.specs.List.{list_any, list_all}
 use Rattle.std.proofs.lemmas.Bool.{cond-true, cond-false}
-use Rattle.std.proofs.lemmas.List.{append-nil, drop-drop, drop_all, drop_more, get_or_default, length-drop}
+use Rattle.std.proofs.lemmas.List.{append-nil, drop-drop, drop_all, drop_more, get_or_default}
 use Rattle.py_lexer.specs.declared.token.TokenKind.TheVariants.{Word}
 use Rattle.py_lexer.specs.declared.token.Token.{Token}
 use Rattle.py_lexer.specs.Cut.{AreTokens}
-use Rattle.py_lexer.specs.Span.{IsSpan, AreSpans}
+use Rattle.py_lexer.specs.Span.{AreSpans}
 use Rattle.py_lexer.proofs.Spans.{are_spans}
 use Rattle.py_layout.specs.declared.line.LogicalLine.{LogicalLine}
 use Rattle.py_layout.specs.declared.fault.LayoutFault.{LayoutFault}

@@ -1,5 +1,5 @@
 -- How tokens are put into logical lines.
-use Rattle.std.specs.Prelude.{◌≡◌, ℕ, suc, ◌+◌, ◌-◌, List, [], ◌∷◌, ◌++◌, length, drop, filter, Bool, true, false, ◌==◌, not, nat_lt, nat_le, Option, Some, None, option_map, option_and_then, Result, Ok, Err, if◌then◌else◌}
+use Rattle.std.specs.Prelude.{◌≡◌, ℕ, suc, ◌+◌, ◌-◌, ◌<◌, ◌≤◌, List, [], ◌∷◌, ◌++◌, length, drop, get_or, slice_range, filter, Bool, true, false, ◌==◌, not, nat_lt, nat_le, Option, Some, None, option_map, option_and_then, Result, Ok, Err, if◌then◌else◌}
 use Rattle.std.specs.List.{list_any, list_all, prefix_len}
 use Rattle.py_lexer.specs.declared.token.TokenKind.{TokenKind}
 use Rattle.py_lexer.specs.declared.token.TokenKind.TheVariants.{Word, Number, Text, Op, LineEnd, Unsupported}
@@ -82,6 +82,20 @@ pub record Stops (text : List ℕ) (tokens : List Token) (line : ℕ) : Type 0 w
   pub begins : is_line_end first.kind ≡ false
   pub refused : entered text spot ≡ None
   pub there : first.line ≡ line
+
+-- ---- where lines stand
+
+-- a line has a token, none of its tokens is a line end, and its number is the line of the first
+pub record IsLine (tokens : List Token) (l : LogicalLine) : Type 0 where
+  pub filled : l.first < l.end
+  pub within : l.end ≤ length tokens
+  pub whole : list_all (λ t. not (is_line_end t.kind)) (slice_range tokens l.first l.end) ≡ true
+  pub line : (d : Token) → l.line ≡ (get_or tokens l.first d).line
+
+-- each line stands behind the one before it
+abbrev pub AreInOrder : List Token → ℕ → List LogicalLine → Type 0
+AreInOrder tokens from [] = Unit {0}
+AreInOrder tokens from (l ∷ lines) = (from ≤ l.first) × IsLine tokens l × AreInOrder tokens l.end lines
 
 -- ---- answers
 

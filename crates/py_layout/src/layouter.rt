@@ -3,7 +3,7 @@ ghost use Rattle.std.specs.Prelude.{◌≡◌, ◌≤◌, ◌<◌, ◌+◌, ◌-
 ghost use Rattle.py_lexer.specs.declared.token.Token.{Token};
 ghost use Rattle.py_lexer.specs.Cut.{AreTokens};
 ghost use Rattle.py_layout.specs.declared.line.LogicalLine.{LogicalLine};
-ghost use Rattle.py_layout.specs.Layout.{AreLines, Stops, IsLaid, Gives, indent_of, line_len, is_line_end};
+ghost use Rattle.py_layout.specs.Layout.{AreInOrder, AreLines, Stops, IsLaid, Gives, indent_of, line_len, is_line_end};
 
 use crate::fault::LayoutFault;
 use crate::line::{Lines, LogicalLine};
@@ -31,6 +31,11 @@ pub fn layout_law()
     ensures one { (text : List ℕ) (tokens : List Token) (ls ms : List LogicalLine) → AreLines text tokens ls → AreLines text tokens ms → ls ≡ ms }
     ensures stops { (text : List ℕ) (tokens : List Token) (line other : ℕ) → Stops text tokens line → Stops text tokens other → line ≡ other }
     ensures not_both { (text : List ℕ) (tokens : List Token) (ls : List LogicalLine) (line : ℕ) → AreLines text tokens ls → Stops text tokens line → ⊥ }
+{}
+
+/// The law of places: the lines stand one behind another in the tokens, and each has a token and no line end.
+pub fn place_law()
+    ensures { (text : List ℕ) (tokens : List Token) (lines : List LogicalLine) → AreLines text tokens lines → AreInOrder tokens 0 lines }
 {}
 
 // Takes one line after another.

@@ -8,5 +8,8 @@ mod line;
 mod stack;
 
 pub use fault::LayoutFault;
-pub use layouter::{layout, layout_law};
+pub use layouter::{layout, layout_law, place_law};
 pub use line::{Lines, LogicalLine};
+
+#[cfg(test)]
+mod tests;

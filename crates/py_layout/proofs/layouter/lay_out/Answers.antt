@@ -1,8 +1,8 @@
-use Rattle.std.proofs.Common.{rules, ◌≡◌, ◌≤◌, ◌<◌, ◌+◌, ◌-◌, ◌^◌, ◌++◌, ◌∷◌, [], ℕ, List, length, take, drop, Option, Some, None, ap, sym, ◌∙◌, subst, arith}
+use Rattle.std.proofs.Common.{rules, ◌≡◌, ◌≤◌, ◌<◌, ◌+◌, ◌-◌, ◌^◌, ◌++◌, ◌∷◌, [], ℕ, length, take, drop, Some, None, ap, sym, ◌∙◌, subst, arith}
 use Rattle.std.proofs.lemmas.List.{take_rest, length-drop}
 use Rattle.py_layout.specs.declared.line.LogicalLine.{LogicalLine}
-use Rattle.py_layout.specs.Layout.{indent_of, stack_after, line_len, entered, line_at}
-use Rattle.py_layout.proofs.Laying.{SoFar, spot, no_token, read, read_is, was_entered, was_refused, begins, after_end, after_line, stops_here, found_at_end, token_within, few_tokens, line_filled, not_indented, indented}
+use Rattle.py_layout.specs.Layout.{indent_of, stack_after, line_len, line_at}
+use Rattle.py_layout.proofs.Laying.{SoFar, spot, no_token, read, read_is, was_entered, was_refused, after_end, after_line, stops_here, found_at_end, token_within, few_tokens, line_filled, not_indented, indented}
 use Rattle.py_layout.proofs.layouter.lay_out.Goals as goal
 
 pub loop-index-preserved-then-is_line_end : goal.loop-index-preserved-then-is_line_end
@@ -62,7 +62,7 @@ loop-index-preserved c =
     let depth : c.saturating_sub.result ≡ length c.enter.new.self - 1 = c.saturating_sub.ensures ∙ ap (λ k. k - 1) c.len.ensures in
     let line : ℕ → LogicalLine = λ d. record { first = l.index; end = l.index + n; depth = d; line = t.line } in
     let lines_are : c.push.new.self ≡ c.loop-index.lines ++ line_at (spot c.loop-index.begin c.loop-index.index c.loop-index.stack) (read c.args.tokens.now c.loop-index.index) c.enter.new.self c.line_len-n.result ∷ [] =
-        c.in_ok-push.ensures ∙ ap (λ d. l.lines ++ line d ∷ []) depth in
+    c.in_ok-push.ensures ∙ ap (λ d. l.lines ++ line d ∷ []) depth in
     let some_tokens : 0 < c.line_len-n.result = line_filled tokens l.index c.loop-index-test.true (read_is tokens l.index c.loop-index-test.true) (sym c.is_line_end.ensures ∙ c.if-is_line_end.false) n long in
     record {
       far = omega arith;

@@ -1,4 +1,4 @@
-use Rattle.std.proofs.Common.{rules, ◌≡◌, ℕ, nat_le, ap, ◌∙◌}
+use Rattle.std.proofs.Common.{rules, nat_le, ap, ◌∙◌}
 use Rattle.std.specs.List.{filter}
 use Rattle.std.proofs.lemmas.Fn.{filter_same}
 use Rattle.py_layout.proofs.stack.Stack.pop_above.Goals as goal
