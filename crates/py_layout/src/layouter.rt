@@ -12,9 +12,10 @@ use flow_base::PyText;
 use py_lexer::{Token, TokenKind, Tokens};
 use std::alloc::Global;
 
-/// The logical lines of a text, by its tokens. Leading spaces give a line its width; a larger width than that of the line
-/// before opens a block, and a smaller one closes those above it. `At` exactly where a line's width is that of no open
-/// block or a tab is in its indentation, and with the line of the first such line.
+/// The logical lines of a text, by its tokens, after "Logical lines" and "Indentation" of the Python language reference.
+/// Leading spaces give a line its width; a larger width than that of the line before opens a block, and a smaller one
+/// closes those above it. `At` exactly where a line's width is that of no open block or a tab is in its indentation, and
+/// with the line of the first such line.
 pub fn layout(alloc: Global, text: &PyText, tokens: &Tokens) -> Result<Lines, LayoutFault>
     requires few { length text.now < 2 ^ 32 - 1 }
     requires lexed { AreTokens text.now tokens.now }

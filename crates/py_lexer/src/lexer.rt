@@ -15,9 +15,9 @@ use crate::word::{is_name_start, word_front};
 use flow_base::{NoMemory, PyText};
 use std::alloc::Global;
 
-/// The tokens of a text: at each place the longest that fits. Spaces, tabs and comments stand between tokens; lines are
-/// joined inside brackets and by a backslash at a line's end. `At` exactly where a place before the end has neither, and
-/// with the line of the first such place.
+/// The tokens of a text, after "Lexical analysis" of the Python language reference: at each place the longest that fits.
+/// Spaces, tabs and comments stand between tokens; lines are joined inside brackets and by a backslash at a line's end.
+/// `At` exactly where a place before the end has neither, and with the line of the first such place.
 pub fn lex(alloc: Global, text: &PyText) -> Result<Tokens, LexFault>
     requires { length text.now < 2 ^ 32 - 1 }
     ensures sound { IsLexed text.now result }

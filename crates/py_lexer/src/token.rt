@@ -5,8 +5,8 @@ use flow_base::NoMemory;
 use std::alloc::Global;
 use std::marker::Model;
 
-/// What a token is: a name or a keyword, a whole number, a text literal, an operator, the end of a line outside brackets,
-/// or what this language has not.
+/// What a token is: a name (Unicode Standard Annex 31) or a keyword, a whole number, a text literal, an operator or
+/// delimiter, the end of a line outside brackets, or what this language has not of the tokens of Python.
 #[derive(Clone, Copy, Debug, PartialEq, Eq)]
 pub enum TokenKind {
     Word,
