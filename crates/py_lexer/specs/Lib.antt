@@ -1,0 +1,4 @@
+pub mod Cut
+pub mod Form
+pub mod Scan
+pub mod Span
