@@ -1,0 +1,7 @@
+pub mod NameLists
+pub mod Marks
+pub mod Scopes
+pub mod Faults
+pub mod Chart
+pub mod Building
+pub mod CodeTable
