@@ -38,7 +38,7 @@ handlers_map : (xs : List Handler) (r : List Scope) → from_handlers (map (λ (
 handlers_map [] r = refl
 handlers_map (x ∷ xs) r = ap (λ (z : List Spot). spots_of_handler x r ++ z) (handlers_map xs r)
 
-statements_map : (xs : List Stmt) → statements (map (λ (y : Stmt). (y, spots_of_stmt y)) xs) ≡ xs
+pub statements_map : (xs : List Stmt) → statements (map (λ (y : Stmt). (y, spots_of_stmt y)) xs) ≡ xs
 statements_map [] = refl
 statements_map (x ∷ xs) = ap (λ (z : List Stmt). x ∷ z) (statements_map xs)
 
@@ -251,11 +251,11 @@ pub def_walked : (x : Stmt) (i : ℕ) (name : List ℕ) (params : List (List ℕ
     → OnOk result (last ≡ with_spots first (spots_of_stmt x r))
 def_walked x i name params ds b all r inside first next last result is is_next is_inside is_all h =
     let whole : with_spots next (spots_of_block all inside) ≡ with_spots first (spots_of_stmt x r) =
-        ap (λ (z : List Stmt). with_spots next (spots_of_block z inside)) is_all
-        ∙ ap (λ (z : List Scope). with_spots next (spots_of_block b z)) is_inside
-        ∙ ap (λ (z : Built). with_spots z (spots_of_block b (scope_of (def_code params b) ∷ r))) is_next
-        ∙ sym (with_spots_append first (coded r (def_code params b) ∷ spots_of_exprs ds r) (spots_of_block b (scope_of (def_code params b) ∷ r)))
-        ∙ ap (with_spots first) (sym (ap (λ (z : Stmt). spots_of_stmt z r) is ∙ stmt_Def i name params ds b r)) in
+    ap (λ (z : List Stmt). with_spots next (spots_of_block z inside)) is_all
+    ∙ ap (λ (z : List Scope). with_spots next (spots_of_block b z)) is_inside
+    ∙ ap (λ (z : Built). with_spots z (spots_of_block b (scope_of (def_code params b) ∷ r))) is_next
+    ∙ sym (with_spots_append first (coded r (def_code params b) ∷ spots_of_exprs ds r) (spots_of_block b (scope_of (def_code params b) ∷ r)))
+    ∙ ap (with_spots first) (sym (ap (λ (z : Stmt). spots_of_stmt z r) is ∙ stmt_Def i name params ds b r)) in
     subst (λ (z : Built). OnOk result (last ≡ z)) whole h
 
 pub class_walked : (x : Stmt) (i : ℕ) (name : List ℕ) (base : Option Expr) (b all : List Stmt) (r inside : List Scope) (first next last : Built)
@@ -264,9 +264,9 @@ pub class_walked : (x : Stmt) (i : ℕ) (name : List ℕ) (base : Option Expr) (
     → OnOk result (last ≡ with_spots first (spots_of_stmt x r))
 class_walked x i name base b all r inside first next last result is is_next is_inside is_all h =
     let whole : with_spots next (spots_of_block all inside) ≡ with_spots first (spots_of_stmt x r) =
-        ap (λ (z : List Stmt). with_spots next (spots_of_block z inside)) is_all
-        ∙ ap (λ (z : List Scope). with_spots next (spots_of_block b z)) is_inside
-        ∙ ap (λ (z : Built). with_spots z (spots_of_block b (scope_of (class_code b) ∷ r))) is_next
-        ∙ sym (with_spots_append first (coded r (class_code b) ∷ spots_of_maybe base r) (spots_of_block b (scope_of (class_code b) ∷ r)))
-        ∙ ap (with_spots first) (sym (ap (λ (z : Stmt). spots_of_stmt z r) is ∙ stmt_Class i name base b r)) in
+    ap (λ (z : List Stmt). with_spots next (spots_of_block z inside)) is_all
+    ∙ ap (λ (z : List Scope). with_spots next (spots_of_block b z)) is_inside
+    ∙ ap (λ (z : Built). with_spots z (spots_of_block b (scope_of (class_code b) ∷ r))) is_next
+    ∙ sym (with_spots_append first (coded r (class_code b) ∷ spots_of_maybe base r) (spots_of_block b (scope_of (class_code b) ∷ r)))
+    ∙ ap (with_spots first) (sym (ap (λ (z : Stmt). spots_of_stmt z r) is ∙ stmt_Class i name base b r)) in
     subst (λ (z : Built). OnOk result (last ≡ z)) whole h

@@ -1,17 +1,18 @@
 -- Which bodies stand round each node of a cell, and where its first scope fault is.
 use Rattle.std.specs.Prelude.{◌≡◌, ℕ, zero, suc, List, [], ◌∷◌, ◌++◌, map, slice_get, Option, Some, None, option_map, Result, Ok, Err}
 use Rattle.std.specs.List.{flat_map}
-use Rattle.py_ast.specs.declared.expr.Expr.{Expr}
+use Rattle.py_ast.specs.declared.expr.Expr.{Expr, out-Expr}
 use Rattle.py_ast.specs.declared.expr.Expr.TheOpen as e
 use Rattle.py_ast.specs.declared.expr.Expr.TheOpen.{Expr-F}
 use Rattle.py_ast.specs.declared.expr.Expr.TheFolds.{fold-Expr}
-use Rattle.py_ast.specs.declared.stmt.Stmt.{Stmt}
+use Rattle.py_ast.specs.declared.stmt.Stmt.{Stmt, out-Stmt}
 use Rattle.py_ast.specs.declared.stmt.Branch.{Branch}
 use Rattle.py_ast.specs.declared.stmt.Handler.{Handler}
 use Rattle.py_ast.specs.declared.stmt.Stmt.TheOpen as s
 use Rattle.py_ast.specs.declared.stmt.Stmt.TheOpen.{Stmt-F, Branch-F, Handler-F}
 use Rattle.py_ast.specs.declared.stmt.Stmt.TheFolds.{para-Stmt, para-Branch, para-Handler}
 use Rattle.py_ast.specs.declared.cell.Cell.{Cell}
+use Rattle.py_ast.specs.Nodes.{Node, a_handler, a_stmt, an_expr}
 use Rattle.py_scope.specs.Faults.{faults_of, least}
 use Rattle.py_scope.specs.Marks.{marks_of_block}
 use Rattle.py_scope.specs.Scopes.{Code, place_of, scope_of}
@@ -177,6 +178,27 @@ faults_of_cell c = faults_of [] (cell_code c) ++ flat_map faults_at (spots_of_ce
 -- the first in the text: nodes are numbered in its order
 abbrev pub first_fault : Cell → Option ℕ
 first_fault c = least (faults_of_cell c)
+
+-- ---- the body of a node
+
+abbrev pub code_in_expr : Expr-F Expr → Option Code
+code_in_expr (e.Lambda i params defaults value) = Some (lambda_code params)
+code_in_expr _ = None
+
+abbrev pub code_in_stmt : Stmt-F Stmt Branch Handler → Option Code
+code_in_stmt (s.Def i name params defaults body) = Some (def_code params body)
+code_in_stmt (s.Class i name base body) = Some (class_code body)
+code_in_stmt _ = None
+
+-- what the body of a node has, if it is a `def`, a lambda or a `class`
+abbrev pub code_of : Node → Option Code
+code_of (an_expr x) = code_in_expr (out-Expr x)
+code_of (a_stmt x) = code_in_stmt (out-Stmt x)
+code_of (a_handler h) = None
+
+-- one spot for each node, with what its body has
+abbrev pub IsAligned : List Spot → List Node → Type 0
+IsAligned spots nodes = map (λ (spot : Spot). spot.code) spots ≡ map code_of nodes
 
 -- ---- what is kept of the scopes of a cell
 

@@ -1,5 +1,5 @@
 -- The names that are local to a body, and the place of a name that is used in it.
-use Rattle.std.specs.Prelude.{ℕ, ◌+◌, Bool, true, false, not, ◌||◌, List, [], ◌∷◌, ◌++◌, filter, Option, Some, None, if◌then◌else◌}
+use Rattle.std.specs.Prelude.{◌≡◌, ℕ, ◌+◌, Bool, true, false, not, ◌||◌, List, [], ◌∷◌, ◌++◌, filter, slice_get, IsTrue, Option, Some, None, if◌then◌else◌}
 use Rattle.std.specs.List.{flat_map}
 use Rattle.std.specs.Option.{unwrap_or}
 use Rattle.py_scope.specs.NameLists.{has, once, place_in_list}
@@ -93,3 +93,19 @@ place_of (scope ∷ round) name =
     if is_function scope.kind
     then in_function (place_in_list scope.locals name) (has scope.globals name) (outer_place 1 round name)
     else in_class (place_in_list scope.locals name) (outer_place 0 round name)
+
+-- ---- what a place means
+
+-- the functions among the bodies round a place, the one whose frame runs there first
+abbrev pub functions : List Scope → List Scope
+functions round = filter (λ (scope : Scope). is_function scope.kind) round
+
+-- the function is there, and the name stands at the slot
+abbrev pub IsSlot : Option Scope → ℕ → List ℕ → Type 0
+IsSlot None slot name = ⊥
+IsSlot (Some scope) slot name = slice_get scope.locals slot ≡ Some name
+
+-- the innermost body is that of a class, and it binds the name
+abbrev pub IsBoundInClass : List Scope → List ℕ → Type 0
+IsBoundInClass [] name = ⊥
+IsBoundInClass (scope ∷ round) name = (is_function scope.kind ≡ false) × IsTrue (has scope.locals name)

@@ -74,8 +74,18 @@ impl Builder {
         ensures spot { OnOk result (self.new ≡ with_spot self.old (coded round.now (record { kind = kind; params = params.now; marks = marks.now }))) }
         ensures inside { IfOk result (λ inside. inside ≡ scope_of (record { kind = kind; params = params.now; marks = marks.now }) ∷ round.now) }
     {
-        let scope = Held::new(self.alloc, scope_of(self.alloc, kind, params, marks.as_slice())?)?;
-        self.fault = least_fault(self.alloc, self.fault, kind, params, marks.as_slice(), round)?;
+        let scope = Held::new(
+            self.alloc,
+            scope_of(self.alloc, kind, params, marks.as_slice())?,
+        )?;
+        self.fault = least_fault(
+            self.alloc,
+            self.fault,
+            kind,
+            params,
+            marks.as_slice(),
+            round,
+        )?;
         let own = scope.copy()?;
         self.seats.push(Seat {
             round: round.copy()?,

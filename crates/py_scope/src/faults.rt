@@ -58,13 +58,27 @@ fn see(
     match mark {
         Mark::Binds(_) => Ok(()),
         Mark::Declares(node, Way::Global, names) => {
-            if has_fault(kind, params, round, &seen.nonlocals, Way::Global, names.as_slice()) {
+            if has_fault(
+                kind,
+                params,
+                round,
+                &seen.nonlocals,
+                Way::Global,
+                names.as_slice(),
+            ) {
                 seen.least = Some(lesser(seen.least, *node));
             }
             add_names(&mut seen.globals, names.as_slice())
         }
         Mark::Declares(node, Way::Nonlocal, names) => {
-            if has_fault(kind, params, round, &seen.globals, Way::Nonlocal, names.as_slice()) {
+            if has_fault(
+                kind,
+                params,
+                round,
+                &seen.globals,
+                Way::Nonlocal,
+                names.as_slice(),
+            ) {
                 seen.least = Some(lesser(seen.least, *node));
             }
             add_names(&mut seen.nonlocals, names.as_slice())

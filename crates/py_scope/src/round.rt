@@ -123,9 +123,9 @@ fn outer_place(scopes: &[Held<Scope>], from: u32, name: &PyText) -> NamePlace
 {
     let mut hops = from;
     for scope in scopes {
-        let scope = scope.get();
-        if is_function(scope.kind) {
-            if let Some(place) = found(scope, hops, name) {
+        let body = scope.get();
+        if is_function(body.kind) {
+            if let Some(place) = found(body, hops, name) {
                 return place;
             }
             hops += 1;

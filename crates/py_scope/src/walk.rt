@@ -41,8 +41,8 @@ fn walk_expr(b: &mut Builder, e: &Expr, round: &Round) -> Result<(), NoMemory>
     ensures { OnOk result (b.new ≡ with_spots b.old (spots_of_expr e.now round.now)) }
 {
     match e {
-        Expr::Name(..) | Expr::Number(..) | Expr::Text(..) | Expr::Nil(..) | Expr::Truth(..) => b
-            .pass(round),
+        Expr::Name(..) | Expr::Number(..) | Expr::Text(..) | Expr::Nil(..) | Expr::Truth(..) =>
+            b.pass(round),
         Expr::Tuple(_, parts)
         | Expr::List(_, parts)
         | Expr::Dict(_, parts)
