@@ -1,7 +1,7 @@
 -- The spots of the nodes stand in the order of the nodes.
-use Rattle.std.proofs.Common.{◌≡◌, ℕ, List, [], ◌∷◌, ◌++◌, map, Option, Some, None, refl, sym, ap, subst, ◌∙◌}
+use Rattle.std.proofs.Common.{◌≡◌, ℕ, zero, suc, length, slice_get, option_map, List, [], ◌∷◌, ◌++◌, map, Option, Some, None, refl, sym, ap, subst, ◌∙◌}
 use Rattle.std.specs.List.{flat_map}
-use Rattle.std.proofs.lemmas.List.{map-append}
+use Rattle.std.proofs.lemmas.List.{length-map, map-append}
 use Rattle.py_ast.specs.Nodes.{Node, Part, a_handler, a_stmt, an_expr, below, below_step, flatten, from_part, from_parts, nodes, nodes_of_all, nodes_of_maybe}
 use Rattle.py_ast.specs.declared.expr.Expr.{Expr, out-Expr, roll-Expr}
 use Rattle.py_ast.specs.declared.expr.Expr.TheOpen as e
@@ -21,7 +21,7 @@ use Rattle.py_ast.specs.Nodes.{below_handler, below_stmt, nodes_of_block, nodes_
 use Rattle.py_scope.specs.declared.scope.Scope.{Scope}
 use Rattle.py_scope.specs.Scopes.{Code, scope_of}
 use Rattle.py_scope.proofs.SpotForms.{statements_map}
-use Rattle.py_scope.specs.Chart.{IsAligned, Spot, Spots, branch_step, class_code, code_in_expr, code_in_stmt, code_of, def_code, each, expr_step, from_branches, from_handlers, from_stmts, handler_step, lambda_code, spots_of_block, spots_of_branch, spots_of_cell, spots_of_expr, spots_of_exprs, spots_of_handler, spots_of_maybe, spots_of_stmt, statements, stmt_step}
+use Rattle.py_scope.specs.Chart.{IsAligned, Spot, Spots, branch_step, class_code, code_in_expr, code_in_stmt, code_of, def_code, each, expr_step, from_branches, from_handlers, from_stmts, handler_step, lambda_code, own_in, seat_at, seat_of, seats_of_cell, spots_of_block, spots_of_branch, spots_of_cell, spots_of_expr, spots_of_exprs, spots_of_handler, spots_of_maybe, spots_of_stmt, statements, stmt_step}
 
 abbrev codes : List Spot → List (Option Code)
 codes spots = map (λ (spot : Spot). spot.code) spots
@@ -295,3 +295,37 @@ block_aligned (x ∷ xs) r = then (spots_of_stmt x r) (spots_of_block xs r) (nod
 
 pub cell_aligned : (c : Cell) → IsAligned (spots_of_cell c) (nodes_of_cell c)
 cell_aligned c = block_aligned c.statements []
+
+-- ---- what is kept of one node
+
+-- lists whose items agree one by one
+agree : {A B C : Type 0} (f : A → C) (g : B → C) (xs : List A) (ys : List B) (k : ℕ) (y : B) → map f xs ≡ map g ys → slice_get ys k ≡ Some y
+    → (x : A) × (slice_get xs k ≡ Some x) × (f x ≡ g y)
+agree f g [] [] k y e h = cc
+agree f g [] (z ∷ zs) k y e h = cc
+agree f g (x ∷ xs) [] k y e h = cc
+agree f g (x ∷ xs) (z ∷ zs) zero y e h =
+    let here : f x ≡ g z = cc in
+    let same : z ≡ y = cc in
+    (x, refl, here ∙ ap g same)
+agree f g (x ∷ xs) (z ∷ zs) (suc k) y e h =
+    let later : map f xs ≡ map g zs = cc in
+    agree f g xs zs k y later h
+
+get_mapped : {A B : Type 0} (f : A → B) (xs : List A) (k : ℕ) (x : A) → slice_get xs k ≡ Some x → slice_get (map f xs) k ≡ Some (f x)
+get_mapped f [] k x h = cc
+get_mapped f (z ∷ zs) zero x h = let same : z ≡ x = cc in ap (λ y. Some (f y)) same
+get_mapped f (z ∷ zs) (suc k) x h = get_mapped f zs k x h
+
+pub own_of_node : (c : Cell) (i : ℕ) (m : Node) → n.node_at (nodes_of_cell c) i ≡ Some m → own_in (seat_at (seats_of_cell c) i) ≡ option_map scope_of (code_of m)
+own_of_node c zero m h = cc
+own_of_node c (suc k) m h =
+    let w = agree (λ (spot : Spot). spot.code) code_of (spots_of_cell c) (nodes_of_cell c) k m (cell_aligned c) h in
+    ap own_in (get_mapped seat_of (spots_of_cell c) k w.0 w.1) ∙ ap (option_map scope_of) w.2
+
+pub as_many : (c : Cell) → length (seats_of_cell c) ≡ length (nodes_of_cell c)
+as_many c =
+    length-map (spots_of_cell c) seat_of
+    ∙ sym (length-map (spots_of_cell c) (λ (spot : Spot). spot.code))
+    ∙ ap (λ (z : List (Option Code)). length z) (cell_aligned c)
+    ∙ length-map (nodes_of_cell c) code_of

@@ -102,33 +102,69 @@ fn name(a: Global, node: u32, x: &str) -> Result<Expr, NoMemory> {
     Ok(Expr::Name(node, text(a, x)?))
 }
 
-// A place as a text.
-fn shown(a: Global, place: NamePlace) -> Result<String, NoMemory> {
-    Ok(match place {
-        NamePlace::Local(slot) => format!(in a; "L{slot} ")?,
-        NamePlace::Free(hops, slot) => format!(in a; "F{hops}.{slot} ")?,
-        NamePlace::Global => format!(in a; "G ")?,
-        NamePlace::ClassBody => format!(in a; "C ")?,
-    })
+// The names of the slots at a node of a cell.
+fn slots(a: Global, c: Cell, node: u32) -> Result<String, ScopeFault> {
+    let s = scopes(a, &c)?;
+    shown_names(a, s.slots(node))
 }
 
-fn slots(a: Global, names: &NameList) -> Result<String, NoMemory> {
+fn shown_names(a: Global, names: &NameList) -> Result<String, ScopeFault> {
     let mut all = String::new(a);
     for i in 0..names.len() {
-        all.push_str(names.text(i).to_text(a)?.as_str())?;
-        all.push(' ')?;
+        for c in names.text(i).as_slice() {
+            push(&mut all, *c)?;
+        }
+        push(&mut all, ' ')?;
     }
     Ok(all)
 }
 
-// The places of one-letter names, each used or bound at the node after the one before, from a first one on.
-fn places(a: Global, s: &Scopes, at: &[(u32, char)]) -> Result<String, NoMemory> {
+fn push(all: &mut String, c: char) -> Result<(), ScopeFault> {
+    match all.push(c) {
+        Ok(_) => Ok(()),
+        Err(_) => Err(ScopeFault::NoMemory),
+    }
+}
+
+// The places of one-letter names that are used or bound at some nodes of a cell.
+fn places(a: Global, c: Cell, at: &[(u32, char)]) -> Result<String, ScopeFault> {
+    let s = scopes(a, &c)?;
     let mut all = String::new(a);
     for (node, letter) in at {
-        let name = PyText::from_points(a, vec![in a; *letter]?)?;
-        all.push_str(shown(a, s.place(*node, &name))?.as_str())?;
+        show(&mut all, place(a, &s, *node, *letter)?)?;
     }
     Ok(all)
+}
+
+fn place(a: Global, s: &Scopes, node: u32, letter: char) -> Result<NamePlace, NoMemory> {
+    let name = PyText::from_points(a, vec![in a; letter]?)?;
+    Ok(s.place(node, &name))
+}
+
+// A place as a letter and its numbers, which are below 10 here.
+fn show(all: &mut String, place: NamePlace) -> Result<(), ScopeFault> {
+    match place {
+        NamePlace::Local(slot) => {
+            push(all, 'L')?;
+            push(all, digit(slot))?;
+        }
+        NamePlace::Free(hops, slot) => {
+            push(all, 'F')?;
+            push(all, digit(hops))?;
+            push(all, digit(slot))?;
+        }
+        NamePlace::Global => push(all, 'G')?,
+        NamePlace::ClassBody => push(all, 'C')?,
+    }
+    push(all, ' ')
+}
+
+fn digit(n: u32) -> char {
+    if n < 10 {
+        char::from(b'0' + n as u8)
+    } else {
+        '?'
+    }
 }
 
 // `def f(x):` with `y = x`, and in it `def g(z):` with `nonlocal y`, `y = z` and `return h`.
@@ -261,64 +297,59 @@ fn branches(a: Global) -> Result<Cell, NoMemory> {
     function(a, "", f)
 }
 
-fn slots_of(a: Global, c: Cell) -> Result<String, ScopeFault> {
-    let s = scopes(a, &c)?;
-    Ok(slots(a, s.slots(1))?)
-}
-
 #[test]
 fn names_of_nested_functions(rt: HostRuntime) -> Result<(), Fail> {
     let a = rt.alloc();
-    let s = scopes(a, &nested(a)?)?;
-    let found = places(
-        a,
-        &s,
-        &[
-            (1, 'f'),
-            (3, 'y'),
-            (4, 'x'),
-            (5, 'g'),
-            (8, 'y'),
-            (9, 'z'),
-            (11, 'h'),
-            (0, 'x'),
-            (12, 'x'),
-        ],
-    )?;
-    assert!(rt; found.as_str() == "G L1 L0 L2 F1.1 L0 G G G ");
-    assert!(rt; slots(a, s.slots(1))?.as_str() == "x y g ");
-    assert!(rt; slots(a, s.slots(5))?.as_str() == "z ");
-    assert!(rt; s.slots(2).len() == 0 && s.slots(0).len() == 0 && s.slots(99).len() == 0);
+    let at = [
+        (1, 'f'),
+        (3, 'y'),
+        (4, 'x'),
+        (5, 'g'),
+        (8, 'y'),
+        (9, 'z'),
+        (11, 'h'),
+        (0, 'x'),
+    ];
+    assert!(rt; places(a, nested(a)?, &at)?.as_str() == "G L1 L0 L2 F11 L0 G G ");
+    assert!(rt; slots(a, nested(a)?, 1)?.as_str() == "x y g ");
+    assert!(rt; slots(a, nested(a)?, 5)?.as_str() == "z ");
+    assert!(rt; slots(a, nested(a)?, 2)?.as_str() == "");
     Ok(())
 }
 
 #[test]
-fn names_of_classes_and_lambdas(rt: HostRuntime) -> Result<(), Fail> {
+fn names_of_classes(rt: HostRuntime) -> Result<(), Fail> {
     let a = rt.alloc();
-    let s = scopes(a, &class_in_function(a)?)?;
-    let found = places(
-        a,
-        &s,
-        &[(5, 'C'), (7, 'b'), (8, 'a'), (9, 'm'), (11, 'b'), (13, 'a')],
-    )?;
-    assert!(rt; found.as_str() == "L1 C F0.0 C G F1.0 ");
-    assert!(rt; slots(a, s.slots(1))?.as_str() == "a C " && s.slots(5).len() == 0);
-    let s = scopes(a, &lambda(a)?)?;
-    let found = places(a, &s, &[(4, 'k'), (6, 'y'), (7, 'k'), (5, 'z')])?;
-    assert!(rt; found.as_str() == "L0 L0 F1.0 L1 ");
-    assert!(rt; slots(a, s.slots(3))?.as_str() == "y z ");
-    let s = scopes(a, &declared_last(a)?)?;
-    let found = places(a, &s, &[(3, 'x'), (5, 'g'), (7, 'x')])?;
-    assert!(rt; found.as_str() == "G L0 G ");
+    let at = [(5, 'C'), (7, 'b'), (8, 'a'), (9, 'm'), (11, 'b'), (13, 'a')];
+    assert!(rt; places(a, class_in_function(a)?, &at)?.as_str() == "L1 C F00 C G F10 ");
+    assert!(rt; slots(a, class_in_function(a)?, 1)?.as_str() == "a C ");
+    assert!(rt; slots(a, class_in_function(a)?, 5)?.as_str() == "");
+    Ok(())
+}
+
+#[test]
+fn names_of_lambdas(rt: HostRuntime) -> Result<(), Fail> {
+    let a = rt.alloc();
+    let at = [(4, 'k'), (6, 'y'), (7, 'k'), (5, 'z')];
+    assert!(rt; places(a, lambda(a)?, &at)?.as_str() == "L0 L0 F10 L1 ");
+    assert!(rt; slots(a, lambda(a)?, 3)?.as_str() == "y z ");
+    Ok(())
+}
+
+#[test]
+fn names_declared_last(rt: HostRuntime) -> Result<(), Fail> {
+    let a = rt.alloc();
+    let at = [(3, 'x'), (5, 'g'), (7, 'x')];
+    assert!(rt; places(a, declared_last(a)?, &at)?.as_str() == "G L0 G ");
     Ok(())
 }
 
 #[test]
 fn bindings(rt: HostRuntime) -> Result<(), Fail> {
     let a = rt.alloc();
-    assert!(rt; slots_of(a, loop_and_deletion(a)?)?.as_str() == "i d ");
-    assert!(rt; slots_of(a, handler_and_targets(a)?)?.as_str() == "e p q ");
-    assert!(rt; slots_of(a, branches(a)?)?.as_str() == "n C g ");
+    assert!(rt; slots(a, loop_and_deletion(a)?, 1)?.as_str() == "i d ");
+    assert!(rt; slots(a, handler_and_targets(a)?, 1)?.as_str() == "e p q ");
+    assert!(rt; slots(a, branches(a)?, 1)?.as_str() == "n C g ");
     Ok(())
 }
 
@@ -416,21 +447,20 @@ fn faults_of_bodies_in_others(rt: HostRuntime) -> Result<(), Fail> {
     Ok(())
 }
 
+fn coded(a: Global) -> Result<Coded, ScopeFault> {
+    let cell = nested(a)?;
+    let scopes = scopes(a, &cell)?;
+    Ok(Coded { cell, scopes })
+}
+
 #[test]
 fn cells_of_runs(rt: HostRuntime) -> Result<(), Fail> {
     let a = rt.alloc();
     let mut codes = Codes::new(a);
-    for run in 1..3 {
-        let c = nested(a)?;
-        let scopes = scopes(a, &c)?;
-        if codes.get(RunNo(run)).is_none() {
-            codes.add(RunNo(run), Coded { cell: c, scopes })?;
-        }
-    }
-    assert!(rt; codes.get(RunNo(0)).is_none() && codes.get(RunNo(3)).is_none());
-    let Some(coded) = codes.get(RunNo(2)) else {
-        panic!(rt; "no cell");
-    };
-    assert!(rt; coded.cell.statements.len() == 1 && coded.scopes.slots(1).len() == 3);
+    codes.add(RunNo(2), coded(a)?)?;
+    let found = codes
+        .get(RunNo(2))
+        .map_or(0, |coded| coded.scopes.slots(1).len());
+    assert!(rt; found == 3 && codes.get(RunNo(1)).is_none());
     Ok(())
 }
