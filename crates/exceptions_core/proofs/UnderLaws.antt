@@ -71,7 +71,8 @@ under_parent c p of apart e u = elim (under_splits c of u) [
 
 -- ---- the class that has a name
 
-named_case : (name : List ℕ) (c d : ExcClass) (rest : Option ExcClass) → (rest ≡ Some d → name ≡ class_name d) → (b : Bool) → (b ≡ true → name ≡ class_name c)
+named_case : (name : List ℕ) (c d : ExcClass) (rest : Option ExcClass) → (rest ≡ Some d → name ≡ class_name d) → (b : Bool)
+    → (b ≡ true → name ≡ class_name c)
     → cond b (Some c) rest ≡ Some d → name ≡ class_name d
 named_case name c d rest later true here e = here refl ∙ ap class_name (some_same c d e)
   where
@@ -82,11 +83,13 @@ named_case name c d rest later false here e = later e
 pub named_has_name : (name : List ℕ) (cs : List ExcClass) (d : ExcClass) → first_named name cs ≡ Some d → name ≡ class_name d
 named_has_name name [] d e = cc
 named_has_name name (c ∷ cs) d e =
-    named_case name c d (first_named name cs) (named_has_name name cs d) (bytes_eq name (class_name c)) (bytes_eq-Decides name (class_name c)).0 e
+    named_case name c d (first_named name cs) (named_has_name name cs d) (bytes_eq name (class_name c))
+        (bytes_eq-Decides name (class_name c)).0 e
 
 -- all classes
 abbrev pub all_classes : List ExcClass
-all_classes = Exception ∷ ArithmeticError ∷ ZeroDivisionError ∷ LookupError ∷ IndexError ∷ KeyError ∷ NameError ∷ UnboundLocalError ∷ RuntimeError ∷ RecursionError ∷ AttributeError ∷ TypeError ∷ ValueError ∷ AssertionError ∷ []
+all_classes = Exception ∷ ArithmeticError ∷ ZeroDivisionError ∷ LookupError ∷ IndexError ∷ KeyError ∷ NameError ∷ UnboundLocalError ∷
+    RuntimeError ∷ RecursionError ∷ AttributeError ∷ TypeError ∷ ValueError ∷ AssertionError ∷ []
 
 named_itself : (d : ExcClass) → first_named (class_name d) all_classes ≡ Some d
 named_itself Exception = refl
@@ -109,7 +112,8 @@ name_is_named name d e = ap (λ (n : List ℕ). first_named n all_classes) e ∙
 
 -- ---- the loop over the classes
 
-pub passed : (name word : List ℕ) (i : ℕ) (cs : List ExcClass) (d : ExcClass) → i < length cs → word ≡ class_name (get_or cs i d) → name ≢ word
+pub passed : (name word : List ℕ) (i : ℕ) (cs : List ExcClass) (d : ExcClass) → i < length cs → word ≡ class_name (get_or cs i d)
+    → name ≢ word
     → first_named name (drop (i + 1) cs) ≡ first_named name (drop i cs)
 passed name word i cs d h is apart =
     let here : ExcClass = get_or cs i d in

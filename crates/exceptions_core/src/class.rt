@@ -100,8 +100,8 @@ fn spells(name: &[char], word: &str) -> bool
     true
 }
 
-/// Whether a class is another one or under it, so that an `except` clause with the second takes an exception of the first (Python reference
-/// 8.4). Takes no memory.
+/// Whether a class is another one or under it, so that an `except` clause with the second takes an exception of the first (Python
+/// reference 8.4). Takes no memory.
 pub fn matches(c: ExcClass, of: ExcClass) -> bool
     ensures { IsTrue result ↔ IsUnder c of }
 {

@@ -4,8 +4,8 @@ ghost use Rattle.exceptions_core.specs.Errors.{class_of, text_after, text_before
 
 use crate::ExcClass;
 
-/// An error that the language raises by itself, with a text as its only argument: one for each text. (A `KeyError` has the key in place of a
-/// text.)
+/// An error that the language raises by itself, with a text as its only argument: one for each text. (A `KeyError` has the key in place
+/// of a text.)
 #[derive(Clone, Copy, Debug, PartialEq, Eq)]
 pub enum FaultKind {
     /// A name that no scope and no built-in has.

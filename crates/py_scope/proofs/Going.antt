@@ -14,7 +14,8 @@ joined_head f i all x inside is = ap (λ z. flat_map f z) (drop_more all i x ins
 
 -- what is left to be done after a part, where doing two lists is doing one after the other
 pub goes_on : {A S B : Type 0} (does : B → List S → B) → ((b : B) (xs ys : List S) → does b (xs ++ ys) ≡ does (does b xs) ys)
-    → (f : A → List S) (i : ℕ) (at next goal : B) (all : List A) (x : A) → i < length all → x ≡ slice_index_or all i x → next ≡ does at (f x)
+    → (f : A → List S) (i : ℕ) (at next goal : B) (all : List A) (x : A) → i < length all → x ≡ slice_index_or all i x
+    → next ≡ does at (f x)
     → does at (flat_map f (drop i all)) ≡ goal → does next (flat_map f (drop (i + 1) all)) ≡ goal
 goes_on does joins f i at next goal all x inside is step so_far =
     ap (λ b. does b (flat_map f (drop (i + 1) all))) step

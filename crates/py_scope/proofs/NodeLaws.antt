@@ -49,7 +49,8 @@ parts : (ps : List Known) (r : List Scope)
     → IsAligned (each (map spots_of_expr (map (λ p. p.0) ps)) r) (from_parts (map (λ (y : Expr). (y, below y)) (map (λ p. p.0) ps)))
 parts [] r = refl
 parts (p ∷ ps) r =
-    then (spots_of_expr p.0 r) (each (map spots_of_expr (map (λ p. p.0) ps)) r) (nodes p.0) (from_parts (map (λ (y : Expr). (y, below y)) (map (λ p. p.0) ps)))
+    then (spots_of_expr p.0 r) (each (map spots_of_expr (map (λ p. p.0) ps)) r) (nodes p.0)
+    (from_parts (map (λ (y : Expr). (y, below y)) (map (λ p. p.0) ps)))
     (p.1 r) (parts ps r)
 
 two : (a b : Known) (r : List Scope) → IsAligned (spots_of_expr a.0 r ++ spots_of_expr b.0 r) (nodes a.0 ++ nodes b.0)
@@ -60,7 +61,8 @@ first : (code : Option Code) (xs : List Spot) (ns : List Node) → IsAligned xs 
 first code xs ns p = ap (λ (z : List (Option Code)). code ∷ z) p
 
 level : (y : Expr-F Known) (r : List Scope) → codes (expr_step (map-Expr Expr Spots spots_of_expr (map-Expr Known Expr (λ e. e.0) y)) r)
-    ≡ code_in_expr (map-Expr Known Expr (λ e. e.0) y) ∷ own (below_step (map-Expr Expr Part (λ (z : Expr). (z, below z)) (map-Expr Known Expr (λ e. e.0) y)))
+    ≡ code_in_expr (map-Expr Known Expr (λ e. e.0) y) ∷ own
+    (below_step (map-Expr Expr Part (λ (z : Expr). (z, below z)) (map-Expr Known Expr (λ e. e.0) y)))
 level (e.Name i t) r = refl
 level (e.Number i n) r = refl
 level (e.Text i t) r = refl
@@ -86,7 +88,8 @@ level (e.Attr i a t) r = ap (λ (z : List (Option Code)). None ∷ z) (a.1 r)
 level (e.Item i a b) r = ap (λ (z : List (Option Code)). None ∷ z) (two a b r)
 level (e.Call i f ps) r =
     ap (λ (z : List (Option Code)). None ∷ z)
-    (then (spots_of_expr f.0 r) (each (map spots_of_expr (map (λ p. p.0) ps)) r) (nodes f.0) (from_parts (map (λ (y : Expr). (y, below y)) (map (λ p. p.0) ps)))
+    (then (spots_of_expr f.0 r) (each (map spots_of_expr (map (λ p. p.0) ps)) r) (nodes f.0)
+    (from_parts (map (λ (y : Expr). (y, below y)) (map (λ p. p.0) ps)))
     (f.1 r) (parts ps r))
 
 pub expr_aligned : (x : Expr) → AlignedExpr x
@@ -96,12 +99,14 @@ expr_aligned = ind-Expr AlignedExpr (λ x y e. subst (λ (z : Expr-F Expr). Alig
     step y r = let x : Expr-F Expr = map-Expr Known Expr (λ e. e.0) y in
         ap (λ (f : Spots). codes (f r)) (fold-roll-Expr Spots expr_step x)
         ∙ level y r
-        ∙ ap (λ (z : Expr-F Expr). code_in_expr z ∷ own (below_step (map-Expr Expr Part (λ (z : Expr). (z, below z)) x))) (sym (out-roll-Expr x))
+        ∙ ap (λ (z : Expr-F Expr). code_in_expr z ∷ own (below_step (map-Expr Expr Part (λ (z : Expr). (z, below z)) x)))
+        (sym (out-roll-Expr x))
         ∙ ap (λ (z : List Node). code_of (an_expr (roll-Expr x)) ∷ own z) (sym (para-roll-Expr (List Node) below_step x))
 
 pub exprs_aligned : (xs : List Expr) (r : List Scope) → IsAligned (spots_of_exprs xs r) (nodes_of_all xs)
 exprs_aligned [] r = refl
-exprs_aligned (x ∷ xs) r = then (spots_of_expr x r) (spots_of_exprs xs r) (nodes x) (nodes_of_all xs) (expr_aligned x r) (exprs_aligned xs r)
+exprs_aligned (x ∷ xs) r = then (spots_of_expr x r) (spots_of_exprs xs r) (nodes x) (nodes_of_all xs) (expr_aligned x r)
+    (exprs_aligned xs r)
 
 pub maybe_aligned : (x : Option Expr) (r : List Scope) → IsAligned (spots_of_maybe x r) (nodes_of_maybe x)
 maybe_aligned None r = refl
@@ -170,12 +175,15 @@ handlers (p ∷ ps) r =
 
 -- blocks after each other
 two_blocks : (a b : List KnownStmt) (r : List Scope)
-    → IsAligned (from_stmts (spotted (bare a)) r ++ from_stmts (spotted (bare b)) r) (n.from_stmts (noted (bare a)) ++ n.from_stmts (noted (bare b)))
+    → IsAligned (from_stmts (spotted (bare a)) r ++ from_stmts (spotted (bare b)) r)
+    (n.from_stmts (noted (bare a)) ++ n.from_stmts (noted (bare b)))
 two_blocks a b r =
-    then (from_stmts (spotted (bare a)) r) (from_stmts (spotted (bare b)) r) (n.from_stmts (noted (bare a))) (n.from_stmts (noted (bare b))) (stmts a r) (stmts b r)
+    then (from_stmts (spotted (bare a)) r) (from_stmts (spotted (bare b)) r) (n.from_stmts (noted (bare a)))
+    (n.from_stmts (noted (bare b))) (stmts a r) (stmts b r)
 
 -- an expression before other parts
-expr_then : (x : Expr) (ys : List Spot) (ns : List Node) (r : List Scope) → IsAligned ys ns → IsAligned (spots_of_expr x r ++ ys) (nodes x ++ ns)
+expr_then : (x : Expr) (ys : List Spot) (ns : List Node) (r : List Scope) → IsAligned ys ns
+    → IsAligned (spots_of_expr x r ++ ys) (nodes x ++ ns)
 expr_then x ys ns r q = then (spots_of_expr x r) ys (nodes x) ns (expr_aligned x r) q
 
 abbrev plain_first : List Spot → List Node → Type 0
@@ -218,7 +226,8 @@ stmt_level (s.Global i names) r = refl
 stmt_level (s.Nonlocal i names) r = refl
 stmt_level (s.Del i x) r = behind (spots_of_expr x r) (nodes x) (expr_aligned x r)
 stmt_level (s.Assert i t x) r =
-    behind (spots_of_expr t r ++ spots_of_maybe x r) (nodes t ++ nodes_of_maybe x) (expr_then t (spots_of_maybe x r) (nodes_of_maybe x) r (maybe_aligned x r))
+    behind (spots_of_expr t r ++ spots_of_maybe x r) (nodes t ++ nodes_of_maybe x)
+    (expr_then t (spots_of_maybe x r) (nodes_of_maybe x) r (maybe_aligned x r))
 stmt_level (s.If i bs o) r =
     behind (from_branches (spotted_branches (map (λ p. p.0) bs)) r ++ from_stmts (spotted (bare o)) r)
     (n.from_branches (noted_branches (map (λ p. p.0) bs)) ++ n.from_stmts (noted (bare o)))
@@ -227,14 +236,16 @@ stmt_level (s.If i bs o) r =
 stmt_level (s.While i t b o) r =
     behind (spots_of_expr t r ++ (from_stmts (spotted (bare b)) r ++ from_stmts (spotted (bare o)) r))
     (nodes t ++ (n.from_stmts (noted (bare b)) ++ n.from_stmts (noted (bare o))))
-    (expr_then t (from_stmts (spotted (bare b)) r ++ from_stmts (spotted (bare o)) r) (n.from_stmts (noted (bare b)) ++ n.from_stmts (noted (bare o))) r
+    (expr_then t (from_stmts (spotted (bare b)) r ++ from_stmts (spotted (bare o)) r)
+    (n.from_stmts (noted (bare b)) ++ n.from_stmts (noted (bare o))) r
     (two_blocks b o r))
 stmt_level (s.For i t x b o) r =
     behind (spots_of_expr t r ++ (spots_of_expr x r ++ (from_stmts (spotted (bare b)) r ++ from_stmts (spotted (bare o)) r)))
     (nodes t ++ (nodes x ++ (n.from_stmts (noted (bare b)) ++ n.from_stmts (noted (bare o)))))
     (expr_then t (spots_of_expr x r ++ (from_stmts (spotted (bare b)) r ++ from_stmts (spotted (bare o)) r))
     (nodes x ++ (n.from_stmts (noted (bare b)) ++ n.from_stmts (noted (bare o)))) r
-    (expr_then x (from_stmts (spotted (bare b)) r ++ from_stmts (spotted (bare o)) r) (n.from_stmts (noted (bare b)) ++ n.from_stmts (noted (bare o))) r
+    (expr_then x (from_stmts (spotted (bare b)) r ++ from_stmts (spotted (bare o)) r)
+    (n.from_stmts (noted (bare b)) ++ n.from_stmts (noted (bare o))) r
     (two_blocks b o r)))
 stmt_level (s.Try i b hs o f) r =
     let ys = from_stmts (spotted (bare o)) r ++ from_stmts (spotted (bare f)) r in
@@ -242,21 +253,24 @@ stmt_level (s.Try i b hs o f) r =
     let zs = from_handlers (spotted_handlers (map (λ p. p.0) hs)) r in
     let ms = n.from_handlers (noted_handlers (map (λ p. p.0) hs)) in
     behind (from_stmts (spotted (bare b)) r ++ (zs ++ ys)) (n.from_stmts (noted (bare b)) ++ (ms ++ ns))
-    (then (from_stmts (spotted (bare b)) r) (zs ++ ys) (n.from_stmts (noted (bare b))) (ms ++ ns) (stmts b r) (then zs ys ms ns (handlers hs r) (two_blocks o f r)))
+    (then (from_stmts (spotted (bare b)) r) (zs ++ ys) (n.from_stmts (noted (bare b))) (ms ++ ns) (stmts b r)
+    (then zs ys ms ns (handlers hs r) (two_blocks o f r)))
 stmt_level (s.Def i name params ds b) r =
     let all = statements (spotted (bare b)) in
     let inside = scope_of (def_code params all) ∷ r in
     let rest = spots_of_exprs ds r ++ from_stmts (spotted (bare b)) inside in
     ap (λ (z : List Stmt). Some (def_code params z) ∷ codes rest) (statements_map (bare b))
     ∙ ap (λ (z : List (Option Code)). Some (def_code params (bare b)) ∷ z)
-    (then (spots_of_exprs ds r) (from_stmts (spotted (bare b)) inside) (nodes_of_all ds) (n.from_stmts (noted (bare b))) (exprs_aligned ds r) (stmts b inside))
+    (then (spots_of_exprs ds r) (from_stmts (spotted (bare b)) inside) (nodes_of_all ds) (n.from_stmts (noted (bare b)))
+    (exprs_aligned ds r) (stmts b inside))
 stmt_level (s.Class i name base b) r =
     let all = statements (spotted (bare b)) in
     let inside = scope_of (class_code all) ∷ r in
     let rest = spots_of_maybe base r ++ from_stmts (spotted (bare b)) inside in
     ap (λ (z : List Stmt). Some (class_code z) ∷ codes rest) (statements_map (bare b))
     ∙ ap (λ (z : List (Option Code)). Some (class_code (bare b)) ∷ z)
-    (then (spots_of_maybe base r) (from_stmts (spotted (bare b)) inside) (nodes_of_maybe base) (n.from_stmts (noted (bare b))) (maybe_aligned base r) (stmts b inside))
+    (then (spots_of_maybe base r) (from_stmts (spotted (bare b)) inside) (nodes_of_maybe base) (n.from_stmts (noted (bare b)))
+    (maybe_aligned base r) (stmts b inside))
 
 stmt_made : (y : Stmt-F KnownStmt KnownBranch KnownHandler) → AlignedStmt (roll-Stmt (bare_stmt y))
 stmt_made y r =
@@ -278,10 +292,12 @@ handler_made : (y : Handler-F KnownStmt KnownBranch KnownHandler) → AlignedHan
 handler_made y r =
     let x = bare_handler y in
     ap (λ (f : Spots). codes (f r)) (para-roll-Handler Spots Spots Spots stmt_step branch_step handler_step x)
-    ∙ behind (spots_of_maybe y.class r ++ from_stmts (spotted (bare y.body)) r) (nodes_of_maybe y.class ++ n.from_stmts (noted (bare y.body)))
+    ∙ behind (spots_of_maybe y.class r ++ from_stmts (spotted (bare y.body)) r)
+    (nodes_of_maybe y.class ++ n.from_stmts (noted (bare y.body)))
     (then (spots_of_maybe y.class r) (from_stmts (spotted (bare y.body)) r) (nodes_of_maybe y.class) (n.from_stmts (noted (bare y.body)))
     (maybe_aligned y.class r) (stmts y.body r))
-    ∙ ap (λ (z : List Node). None ∷ own z) (sym (para-roll-Handler (List Node) (List Node) (List Node) n.stmt_step n.branch_step n.handler_step x))
+    ∙ ap (λ (z : List Node). None ∷ own z) (sym (para-roll-Handler (List Node) (List Node)
+    (List Node) n.stmt_step n.branch_step n.handler_step x))
 
 stmt_aligned : (x : Stmt) → AlignedStmt x
 stmt_aligned = ind-Stmt AlignedStmt AlignedBranch AlignedHandler
@@ -291,7 +307,8 @@ stmt_aligned = ind-Stmt AlignedStmt AlignedBranch AlignedHandler
 
 block_aligned : (xs : List Stmt) (r : List Scope) → IsAligned (spots_of_block xs r) (nodes_of_block xs)
 block_aligned [] r = refl
-block_aligned (x ∷ xs) r = then (spots_of_stmt x r) (spots_of_block xs r) (nodes_of_stmt x) (nodes_of_block xs) (stmt_aligned x r) (block_aligned xs r)
+block_aligned (x ∷ xs) r = then (spots_of_stmt x r) (spots_of_block xs r) (nodes_of_stmt x) (nodes_of_block xs) (stmt_aligned x r)
+    (block_aligned xs r)
 
 pub cell_aligned : (c : Cell) → IsAligned (spots_of_cell c) (nodes_of_cell c)
 cell_aligned c = block_aligned c.statements []
@@ -317,7 +334,8 @@ get_mapped f [] k x h = cc
 get_mapped f (z ∷ zs) zero x h = let same : z ≡ x = cc in ap (λ y. Some (f y)) same
 get_mapped f (z ∷ zs) (suc k) x h = get_mapped f zs k x h
 
-pub own_of_node : (c : Cell) (i : ℕ) (m : Node) → n.node_at (nodes_of_cell c) i ≡ Some m → own_in (seat_at (seats_of_cell c) i) ≡ option_map scope_of (code_of m)
+pub own_of_node : (c : Cell) (i : ℕ) (m : Node) → n.node_at (nodes_of_cell c) i ≡ Some m
+    → own_in (seat_at (seats_of_cell c) i) ≡ option_map scope_of (code_of m)
 own_of_node c zero m h = cc
 own_of_node c (suc k) m h =
     let w = agree (λ (spot : Spot). spot.code) code_of (spots_of_cell c) (nodes_of_cell c) k m (cell_aligned c) h in

@@ -15,7 +15,8 @@ least_with_append m (x ∷ xs) ys = least_with_append (lesser m x) xs ys
 
 seats_built : (built : Built) (spots : List Spot) → (with_spots built spots).seats ≡ built.seats ++ map seat_of spots
 seats_built built [] = sym (append-nil built.seats)
-seats_built built (spot ∷ spots) = seats_built (with_spot built spot) spots ∙ append_assoc built.seats (seat_of spot ∷ []) (map seat_of spots)
+seats_built built (spot ∷ spots) = seats_built (with_spot built spot) spots
+    ∙ append_assoc built.seats (seat_of spot ∷ []) (map seat_of spots)
 
 fault_built : (built : Built) (spots : List Spot) → (with_spots built spots).fault ≡ least_with built.fault (flat_map faults_at spots)
 fault_built built [] = refl
@@ -30,7 +31,12 @@ fault_found c =
     fault_built (before_nodes c) (spots_of_cell c)
     ∙ sym (least_with_append None (faults_of [] (cell_code c)) (flat_map faults_at (spots_of_cell c)))
 
-pub finished : (c : Cell) (built : Built) (result : Result (List Seat) ScopeFault) → built ≡ with_spots (before_nodes c) (spots_of_cell c) → Finishes built result → Gives c result
-finished c built (Ok seats) e h = (sym (fault_found c) ∙ sym (ap (λ (b : Built). b.fault) e) ∙ h.0, h.1 ∙ ap (λ (b : Built). b.seats) e ∙ seats_found c)
+pub finished : (c : Cell) (built : Built) (result : Result (List Seat) ScopeFault) → built ≡ with_spots (before_nodes c) (spots_of_cell c)
+    → Finishes built result → Gives c result
+finished c built (Ok seats) e h = (
+  sym (fault_found c) ∙ sym (ap (λ (b : Built). b.fault) e) ∙ h.0,
+  h.1 ∙ ap (λ (b : Built). b.seats) e
+      ∙ seats_found c,
+)
 finished c built (Err (At node)) e h = sym (fault_found c) ∙ sym (ap (λ (b : Built). b.fault) e) ∙ h
 finished c built (Err NoMemory) e h = absurd h

@@ -46,9 +46,11 @@ abbrev pub faults_from : Kind → List (List ℕ) → List Scope → List (List 
 faults_from kind params round globals nonlocals [] = []
 faults_from kind params round globals nonlocals (Binds name ∷ marks) = faults_from kind params round globals nonlocals marks
 faults_from kind params round globals nonlocals (Declares node Global names ∷ marks) =
-    if_fault (has_fault kind params round nonlocals Global names) node ++ faults_from kind params round (with_names globals names) nonlocals marks
+    if_fault (has_fault kind params round nonlocals Global names) node ++ faults_from kind params round
+    (with_names globals names) nonlocals marks
 faults_from kind params round globals nonlocals (Declares node Nonlocal names ∷ marks) =
-    if_fault (has_fault kind params round globals Nonlocal names) node ++ faults_from kind params round globals (with_names nonlocals names) marks
+    if_fault (has_fault kind params round globals Nonlocal names) node ++ faults_from kind params round globals
+    (with_names nonlocals names) marks
 
 -- the faults of a body, by the bodies round it
 abbrev pub faults_of : List Scope → Code → List ℕ

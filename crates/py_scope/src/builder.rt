@@ -37,7 +37,10 @@ impl Model for Builder {
 impl Builder {
     /// Before the nodes of a cell of these statements.
     pub fn new(alloc: Global, statements: &[Stmt], round: &Round) -> Result<Builder, NoMemory>
-        ensures { IfOk result (λ b. b ≡ record { seats = []; fault = least (faults_of round.now (body_code Kind.Cell [] statements.now)) }) }
+        ensures { IfOk result (λ b. b ≡ record {
+          seats = [];
+          fault = least (faults_of round.now (body_code Kind.Cell [] statements.now));
+        }) }
     {
         let marks = marks_of_body(alloc, statements)?;
         let fault = least_fault(alloc, None, Kind::Cell, &[], marks.as_slice(), round)?;
@@ -71,8 +74,16 @@ impl Builder {
         marks: &Marks,
         round: &Round,
     ) -> Result<Round, NoMemory>
-        ensures spot { OnOk result (self.new ≡ with_spot self.old (coded round.now (record { kind = kind; params = params.now; marks = marks.now }))) }
-        ensures inside { IfOk result (λ inside. inside ≡ scope_of (record { kind = kind; params = params.now; marks = marks.now }) ∷ round.now) }
+        ensures spot { OnOk result (self.new ≡ with_spot self.old (coded round.now (record {
+          kind = kind;
+          params = params.now;
+          marks = marks.now;
+        }))) }
+        ensures inside { IfOk result (λ inside. inside ≡ scope_of (record {
+          kind = kind;
+          params = params.now;
+          marks = marks.now;
+        }) ∷ round.now) }
     {
         let scope = Held::new(
             self.alloc,

@@ -17,7 +17,8 @@ pub struct Seat {
     pub own: Option<Held<Scope>>,
 }
 
-/// The scopes of a cell. Contracts see what is known of each of its nodes, of node 1 first: the bodies round it, and the names of its own body.
+/// The scopes of a cell. Contracts see what is known of each of its nodes, of node 1 first: the bodies round it, and the names of its own
+/// body.
 #[derive(Drop)]
 pub struct Scopes {
     seats: Vec<Seat>,
@@ -45,10 +46,10 @@ impl Scopes {
         }
     }
 
-    /// The place of a name that is used or bound at a node. A node is in the innermost body whose statements, or whose value, it is or stands in: the
-    /// defaults of a `def` or a lambda, the base of a `class`, and the `def`, lambda or `class` itself are in the body round it. A number that no node
-    /// has counts as one outside every `def`, lambda and `class`. Takes no memory; its time is logarithmic in the number of names of each body
-    /// round the node.
+    /// The place of a name that is used or bound at a node. A node is in the innermost body whose statements, or whose value, it is or
+    /// stands in: the defaults of a `def` or a lambda, the base of a `class`, and the `def`, lambda or `class` itself are in the body
+    /// round it. A number that no node has counts as one outside every `def`, lambda and `class`. Takes no memory; its time is
+    /// logarithmic in the number of names of each body round the node.
     pub fn place(&self, node: u32, name: &PyText) -> NamePlace
         ensures { result ≡ place_at self.now node name.now }
     {
@@ -58,8 +59,8 @@ impl Scopes {
         }
     }
 
-    /// The local names of the `def` or lambda at a node: its parameters in order, and then the others by where each is first bound in the text. The
-    /// list is empty for a node that is no `def` and no lambda. Takes no memory.
+    /// The local names of the `def` or lambda at a node: its parameters in order, and then the others by where each is first bound in the
+    /// text. The list is empty for a node that is no `def` and no lambda. Takes no memory.
     pub fn slots(&self, node: u32) -> &NameList
         ensures { result.now ≡ slots_at self.now node }
     {

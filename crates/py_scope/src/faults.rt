@@ -22,7 +22,11 @@ pub fn least_fault(
     marks: &[Mark],
     round: &Round,
 ) -> Result<Option<u32>, NoMemory>
-    ensures { IfOk result (λ found. found ≡ least_with least (faults_of round.now (record { kind = kind; params = params.now; marks = marks.now }))) }
+    ensures { IfOk result (λ found. found ≡ least_with least (faults_of round.now (record {
+      kind = kind;
+      params = params.now;
+      marks = marks.now;
+    }))) }
 {
     let mut known = NameList::new(alloc);
     add_names(&mut known, params)?;
@@ -52,7 +56,8 @@ fn see(
     mark: &Mark,
     round: &Round,
 ) -> Result<(), NoMemory>
-    ensures { OnOk result ((rest : List Mark) → least_with seen.new.least (faults_from kind params.now round.now seen.new.globals seen.new.nonlocals rest)
+    ensures { OnOk result ((rest : List Mark)
+        → least_with seen.new.least (faults_from kind params.now round.now seen.new.globals seen.new.nonlocals rest)
         ≡ least_with seen.old.least (faults_from kind params.now round.now seen.old.globals seen.old.nonlocals (mark.now ∷ rest))) }
 {
     match mark {

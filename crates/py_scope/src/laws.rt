@@ -11,8 +11,8 @@ ghost use Rattle.py_scope.specs.declared.scope.Scope.{Scope};
 
 use flow_base::names_law;
 
-/// What is kept of a cell is kept of each of its nodes, in their order: the own names of the node with a number are those of its body, if it is a
-/// `def`, a lambda or a `class`.
+/// What is kept of a cell is kept of each of its nodes, in their order: the own names of the node with a number are those of its body, if
+/// it is a `def`, a lambda or a `class`.
 pub fn nodes_law()
     ensures in_order { (c : Cell) → IsAligned (spots_of_cell c) (nodes_of_cell c) }
     ensures as_many { (c : Cell) → length (seats_of_cell c) ≡ length (nodes_of_cell c) }
@@ -20,9 +20,9 @@ pub fn nodes_law()
         → own_in (seat_at (seats_of_cell c) i) ≡ option_map scope_of (code_of node) }
 {}
 
-/// A place names a slot in which the name stands: a local one of the innermost function round the node that uses it, and a free one of the
-/// function that is so many functions further out, counted from the innermost, whose frame is so many frames up. A name that a class has is bound
-/// in the innermost body.
+/// A place names a slot in which the name stands: a local one of the innermost function round the node that uses it, and a free one of
+/// the function that is so many functions further out, counted from the innermost, whose frame is so many frames up. A name that a class
+/// has is bound in the innermost body.
 pub fn place_law()
     ensures local { (round : List Scope) (name : List ℕ) (slot : ℕ) → place_of round name ≡ place.Local slot
         → IsSlot (slice_get (functions round) 0) slot name }
@@ -33,7 +33,8 @@ pub fn place_law()
     names_law();
 }
 
-/// The parameters of a function, which differ from one another, are its first slots in their order, where no declaration in its body has a fault.
+/// The parameters of a function, which differ from one another, are its first slots in their order, where no declaration in its body has
+/// a fault.
 pub fn params_law()
     ensures { (round : List Scope) (code : Code) → AreDistinct code.params → faults_of round code ≡ []
         → take (length code.params) (locals_of code) ≡ code.params }

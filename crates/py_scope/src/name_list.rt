@@ -49,8 +49,8 @@ impl NameList {
         self.names.text(Sym(place as u64))
     }
 
-    /// The place of a name, from 0, and `None` exactly where the list does not have it. Takes no memory, and time logarithmic in the length
-    /// of the list.
+    /// The place of a name, from 0, and `None` exactly where the list does not have it. Takes no memory, and time logarithmic in the
+    /// length of the list.
     pub fn place(&self, name: &PyText) -> Option<u32>
         ensures { result ≡ place_in_list self.now name.now }
     {

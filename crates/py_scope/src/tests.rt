@@ -1,5 +1,5 @@
-// Cells by hand, with the places of their names. Where nothing else is said, the places are those that the symbol table of CPython 3.11 has for
-// the same text (`symtable`; the order of the slots is that of `co_varnames`, where a name is in no closure).
+// Cells by hand, with the places of their names. Where nothing else is said, the places are those that the symbol table of CPython 3.11
+// has for the same text (`symtable`; the order of the slots is that of `co_varnames`, where a name is in no closure).
 ghost use Rattle.std.specs.Prelude.{◌+◌, ◌<◌, ◌^◌};
 
 use crate::{Coded, Codes, NameList, NamePlace, ScopeFault, Scopes, scopes};

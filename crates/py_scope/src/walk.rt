@@ -14,9 +14,9 @@ use flow_base::NoMemory;
 use py_ast::{Branch, Cell, Expr, Exprs, Handler, Stmt, Stmts, Texts};
 use std::alloc::Global;
 
-/// The scopes of a cell, by the rules of names and bindings of the Python reference, 4.2 and 7.12 to 7.13, with `global` and `nonlocal` valid for the
-/// whole body wherever they stand in it. `ScopeFault::At` comes exactly where a declaration has a scope fault, with the first one that has. The
-/// time is that of sorting the names of the cell.
+/// The scopes of a cell, by the rules of names and bindings of the Python reference, 4.2 and 7.12 to 7.13, with `global` and `nonlocal`
+/// valid for the whole body wherever they stand in it. `ScopeFault::At` comes exactly where a declaration has a scope fault, with the
+/// first one that has. The time is that of sorting the names of the cell.
 pub fn scopes(alloc: Global, c: &Cell) -> Result<Scopes, ScopeFault>
     ensures { Gives c.now result }
 {
@@ -109,7 +109,8 @@ fn enter_def(
     body: &Stmts,
     round: &Round,
 ) -> Result<Round, NoMemory>
-    ensures spots { OnOk result (b.new ≡ with_spots b.old (coded round.now (def_code params.now body.now) ∷ spots_of_exprs defaults.now round.now)) }
+    ensures spots { OnOk result (b.new ≡ with_spots b.old
+        (coded round.now (def_code params.now body.now) ∷ spots_of_exprs defaults.now round.now)) }
     ensures inside { IfOk result (λ inside. inside ≡ scope_of (def_code params.now body.now) ∷ round.now) }
 {
     let inside = b.enter_body(Kind::Function, params.as_slice(), body.as_slice(), round)?;

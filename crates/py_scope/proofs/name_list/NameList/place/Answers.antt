@@ -8,5 +8,6 @@ overflow_cast-result c =
     let is : symbol_of c.self.inside.names c.args.name.now ≡ Some c.in-Some.symbol = sym c.known.ensures ∙ c.in-Some.is in
     let text : slice_get c.self.inside.names c.in-Some.symbol.0 ≡ Some c.args.name.now =
     c.names_law.ensures.text_at c.self.inside.names c.args.name.now c.in-Some.symbol is in
-    let within : c.in-Some.symbol.0 < length c.self.inside.names = slice_get_within c.self.inside.names c.in-Some.symbol.0 c.args.name.now text in
+    let within : c.in-Some.symbol.0 < length c.self.inside.names = slice_get_within c.self.inside.names c.in-Some.symbol.0 c.args.name.now
+    text in
     omega arith
