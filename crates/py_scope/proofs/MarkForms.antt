@@ -1,6 +1,5 @@
 -- What each form of target and statement binds and declares.
-use Rattle.std.proofs.Common.{◌≡◌, ℕ, List, [], ◌∷◌, ◌++◌, map, refl, sym, ap, ◌∙◌, Option}
-use Rattle.py_ast.specs.declared.expr.BinaryOp.{BinaryOp}
+use Rattle.std.proofs.Common.{◌≡◌, ℕ, List, ◌++◌, sym, ap, ◌∙◌}
 use Rattle.py_ast.specs.declared.expr.Expr.{Expr}
 use Rattle.py_ast.specs.declared.expr.Expr.TheVariants as v
 use Rattle.py_ast.specs.declared.expr.Expr.TheOpen as e
@@ -13,7 +12,7 @@ use Rattle.py_ast.specs.declared.stmt.Stmt.TheOpen as s
 use Rattle.py_ast.specs.declared.stmt.Stmt.TheFolds.{fold-roll-Stmt, fold-roll-Branch, fold-roll-Handler}
 use Rattle.py_ast.specs.declared.stmt.Stmt.TheViews.{roll-out-Branch, roll-out-Handler}
 use Rattle.py_scope.specs.declared.mark.Mark.{Mark}
-use Rattle.py_scope.specs.Marks.{branch_step, handler_step, in_order, marks_of_as, marks_of_block, marks_of_branch, marks_of_branches, marks_of_handler, marks_of_handlers, marks_of_stmt, marks_of_target, marks_of_targets, stmt_step, target_step}
+use Rattle.py_scope.specs.Marks.{branch_step, handler_step, marks_of_as, marks_of_block, marks_of_branch, marks_of_branches, marks_of_handler, marks_of_handlers, marks_of_stmt, marks_of_target, marks_of_targets, stmt_step, target_step}
 use Rattle.py_scope.proofs.Going.{in_order_map}
 
 both_same : {a b c d : List Mark} → a ≡ b → c ≡ d → a ++ c ≡ b ++ d

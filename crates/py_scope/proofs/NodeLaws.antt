@@ -1,16 +1,15 @@
 -- The spots of the nodes stand in the order of the nodes.
 use Rattle.std.proofs.Common.{◌≡◌, ℕ, zero, suc, length, slice_get, option_map, List, [], ◌∷◌, ◌++◌, map, Option, Some, None, refl, sym, ap, subst, ◌∙◌}
-use Rattle.std.specs.List.{flat_map}
 use Rattle.std.proofs.lemmas.List.{length-map, map-append}
 use Rattle.py_ast.specs.Nodes.{Node, Part, a_handler, a_stmt, an_expr, below, below_step, flatten, from_part, from_parts, nodes, nodes_of_all, nodes_of_maybe}
-use Rattle.py_ast.specs.declared.expr.Expr.{Expr, out-Expr, roll-Expr}
+use Rattle.py_ast.specs.declared.expr.Expr.{Expr, roll-Expr}
 use Rattle.py_ast.specs.declared.expr.Expr.TheOpen as e
 use Rattle.py_ast.specs.declared.expr.Expr.TheOpen.{Expr-F}
 use Rattle.py_ast.specs.declared.expr.Expr.TheFolds.{fold-roll-Expr, ind-Expr, map-Expr, para-roll-Expr}
 use Rattle.py_ast.specs.declared.expr.Expr.TheViews.{out-roll-Expr}
-use Rattle.py_ast.specs.declared.stmt.Stmt.{Stmt, out-Stmt, roll-Stmt}
-use Rattle.py_ast.specs.declared.stmt.Branch.{Branch, out-Branch, roll-Branch}
-use Rattle.py_ast.specs.declared.stmt.Handler.{Handler, out-Handler, roll-Handler}
+use Rattle.py_ast.specs.declared.stmt.Stmt.{Stmt, roll-Stmt}
+use Rattle.py_ast.specs.declared.stmt.Branch.{Branch, roll-Branch}
+use Rattle.py_ast.specs.declared.stmt.Handler.{Handler, roll-Handler}
 use Rattle.py_ast.specs.declared.stmt.Stmt.TheOpen as s
 use Rattle.py_ast.specs.declared.stmt.Stmt.TheOpen.{Stmt-F, Branch-F, Handler-F}
 use Rattle.py_ast.specs.declared.stmt.Stmt.TheFolds.{ind-Stmt, map-Branch, map-Handler, map-Stmt, para-roll-Branch, para-roll-Handler, para-roll-Stmt}

@@ -1,5 +1,5 @@
 -- Slots that places name.
-use Rattle.std.proofs.Common.{◌≡◌, ℕ, suc, ◌+◌, Bool, true, false, cond, List, [], ◌∷◌, filter, slice_get, IsTrue, Option, Some, None, option_map, is_some, refl, sym, ap, subst, ◌∙◌, arith}
+use Rattle.std.proofs.Common.{◌≡◌, ℕ, suc, ◌+◌, Bool, true, false, cond, List, [], ◌∷◌, slice_get, IsTrue, Option, Some, None, option_map, is_some, refl, subst, arith}
 use Rattle.std.specs.Option.{unwrap_or}
 use Rattle.flow_base.specs.Names.{symbol_of}
 use Rattle.flow_base.specs.declared.numbers.Sym.{Sym}

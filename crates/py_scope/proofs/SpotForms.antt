@@ -1,6 +1,5 @@
 -- What is known of the nodes of each form of expression and statement.
 use Rattle.std.proofs.Common.{◌≡◌, ℕ, ℤ, Bool, List, [], ◌∷◌, ◌++◌, map, refl, sym, ap, subst, ◌∙◌, Option, Result, OnOk}
-use Rattle.std.specs.List.{flat_map}
 use Rattle.py_ast.specs.declared.expr.BinaryOp.{BinaryOp}
 use Rattle.py_ast.specs.declared.expr.SignOp.{SignOp}
 use Rattle.py_ast.specs.declared.expr.CompareOp.{CompareOp}

@@ -1,10 +1,10 @@
 -- What the walk through all nodes of a cell has found.
-use Rattle.std.proofs.Common.{◌≡◌, ℕ, List, [], ◌∷◌, ◌++◌, map, refl, sym, ap, ◌∙◌, append_assoc, append-nil, Option, Some, None, Result, Ok, Err}
+use Rattle.std.proofs.Common.{◌≡◌, ℕ, List, [], ◌∷◌, ◌++◌, map, refl, sym, ap, ◌∙◌, append_assoc, append-nil, Option, None, Result, Ok, Err}
 use Rattle.std.specs.List.{flat_map}
 use Rattle.py_ast.specs.declared.cell.Cell.{Cell}
 use Rattle.py_scope.specs.Building.{Built, Finishes, before_nodes, with_spot, with_spots}
-use Rattle.py_scope.specs.Chart.{Gives, Spot, cell_code, faults_at, faults_of_cell, first_fault, seat_of, seats_of_cell, spots_of_cell}
-use Rattle.py_scope.specs.Faults.{faults_of, least, least_with, lesser}
+use Rattle.py_scope.specs.Chart.{Gives, Spot, cell_code, faults_at, first_fault, seat_of, seats_of_cell, spots_of_cell}
+use Rattle.py_scope.specs.Faults.{faults_of, least_with, lesser}
 use Rattle.py_scope.specs.declared.chart.Seat.{Seat}
 use Rattle.py_scope.specs.declared.fault.ScopeFault.{ScopeFault}
 use Rattle.py_scope.specs.declared.fault.ScopeFault.TheVariants.{At, NoMemory}

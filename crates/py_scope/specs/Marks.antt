@@ -1,6 +1,6 @@
 -- What a body binds and declares, in the order of its text. A body is the statements of a cell, of a `def` or of a `class`; what stands
 -- in a body inside it is not its own.
-use Rattle.std.specs.Prelude.{ℕ, List, [], ◌∷◌, ◌++◌, map, Option, Some, None}
+use Rattle.std.specs.Prelude.{ℕ, List, [], ◌∷◌, ◌++◌, Option, Some, None}
 use Rattle.std.specs.List.{flat_map}
 use Rattle.py_ast.specs.declared.expr.Expr.{Expr}
 use Rattle.py_ast.specs.declared.expr.Expr.TheOpen as e
