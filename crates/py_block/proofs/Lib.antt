@@ -1,0 +1,9 @@
+pub mod Basics
+pub mod Means
+pub mod Spelled
+pub mod Law
+pub mod LexingLaws
+pub mod FormLaws
+pub mod BlockLaws
+pub mod CellLaws
+pub mod LawfulCells

@@ -1,0 +1,4 @@
+pub mod Machine
+pub mod Lexing
+pub mod Parsed
+pub mod Cell
