@@ -184,3 +184,7 @@ ended (o ∷ os) done last = settled done last >>= λ d. ended os o.done (filled
 
 abbrev pub accepted : State → Option Block
 accepted s = ended s.outers s.done s.last
+
+-- the block that lines are, if they are one
+abbrev pub block_read : List Placed → Option Block
+block_read lines = run start lines >>= accepted

@@ -1,9 +1,21 @@
 // What the definitions of cells mean.
-ghost use Rattle.std.specs.Prelude.{◌≡◌, ℕ, List, Result, Ok};
+ghost use Rattle.std.specs.Prelude.{◌≡◌, ℕ, List, Result, Ok, Some};
 ghost use Rattle.py_ast.specs.Statement.{Block};
 ghost use Rattle.py_ast.specs.Lawful.{IsBlock, top};
+ghost use Rattle.py_grammar.specs.Blocks.{Begins, Placed, Stands};
 ghost use Rattle.py_block.specs.Cell.{IsParsed, SpellsText};
+ghost use Rattle.py_block.specs.Machine.{State, accepted, block_read, run, start};
 ghost use Rattle.py_block.specs.Parsed.{Fault, parsed};
+
+/// The law of blocks: lines stand as a block exactly where the levels, run over them one after another, end as it, and they begin a cell
+/// exactly where the levels can be run over them. So lines stand as one block at most.
+pub fn block_law()
+    ensures read { (lines : List Placed) (b : Block) → Stands top lines b → block_read lines ≡ Some b }
+    ensures stands { (lines : List Placed) (n : State) (b : Block) → run start lines ≡ Some n → accepted n ≡ Some b → Stands top lines b }
+    ensures one_block { (lines : List Placed) (a b : Block) → Stands top lines a → Stands top lines b → a ≡ b }
+    ensures begins { (lines : List Placed) (n : State) → run start lines ≡ Some n → Begins lines }
+    ensures runs { (lines : List Placed) → Begins lines → (n : State) × (run start lines ≡ Some n) }
+{}
 
 /// The law of cells: what is answered to a text is what the text is - the cell that it spells, or its first fault by the order of the
 /// kinds - and nothing else is. So a text spells one cell at most, has a fault exactly where it spells none, and what it spells is lawful.

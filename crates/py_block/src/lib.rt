@@ -4,4 +4,4 @@
 
 mod laws;
 
-pub use laws::cell_law;
+pub use laws::{block_law, cell_law};
