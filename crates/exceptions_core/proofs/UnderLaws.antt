@@ -84,7 +84,7 @@ pub named_has_name : (name : List ℕ) (cs : List ExcClass) (d : ExcClass) → f
 named_has_name name [] d e = cc
 named_has_name name (c ∷ cs) d e =
     named_case name c d (first_named name cs) (named_has_name name cs d) (bytes_eq name (class_name c))
-        (bytes_eq-Decides name (class_name c)).0 e
+    (bytes_eq-Decides name (class_name c)).0 e
 
 -- all classes
 abbrev pub all_classes : List ExcClass
