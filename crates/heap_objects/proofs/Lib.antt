@@ -1,0 +1,4 @@
+pub mod EntryLaws
+pub mod EventLaws
+pub mod NameLaws
+pub mod SlotLaws

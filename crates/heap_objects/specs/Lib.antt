@@ -1,3 +1,9 @@
+pub mod Calls
+pub mod Entries
 pub mod Keyed
+pub mod Names
 pub mod Nesting
+pub mod Places
+pub mod State
+pub mod StateCode
 pub mod Tree

@@ -4,6 +4,9 @@ use Rattle.heap_objects.specs.declared.value.Value.{Value, fold-Value, out-Value
 use Rattle.heap_objects.specs.declared.value.Value.TheFolds.{every-Value}
 use Rattle.heap_objects.specs.declared.value.Value.TheOpen.{Value-F, Tuple, Bound, Method}
 
+abbrev pub ValueList : Type 0
+ValueList = List Value
+
 -- the largest, or 0
 abbrev pub largest : List ℕ → ℕ
 largest [] = 0

@@ -1,8 +1,20 @@
 //! Values, objects, and the heap that keeps what their locations hold.
 #![tactic(auto)]
 
+mod cell;
+mod dict;
+mod heap;
+mod items;
 mod keyed;
+mod keying;
+mod listing;
+mod named;
+mod object;
+mod slots;
+mod storing;
 mod value;
 
+pub use heap::Heap;
 pub use keyed::key_of;
+pub use object::{Content, Object};
 pub use value::{NESTING_LIMIT, Value, Values};
