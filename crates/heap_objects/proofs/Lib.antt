@@ -1,4 +1,5 @@
 pub mod EntryLaws
 pub mod EventLaws
 pub mod NameLaws
+pub mod RowLaws
 pub mod SlotLaws

@@ -11,7 +11,7 @@ use Rattle.flow_base.specs.declared.numbers.Sym.{Sym}
 use Rattle.heap_objects.specs.Entries.{has_key, with_all, with_entry, without}
 use Rattle.heap_objects.specs.Names.{new_slots, with_name, with_slot}
 use Rattle.heap_objects.specs.State.{State, cell_at, item, logged, logged_all, made, next_object, with_cell}
-use Rattle.heap_objects.specs.declared.dict.Entry.{Entry}
+use Rattle.heap_objects.specs.declared.tree.Entry.{Entry}
 use Rattle.heap_objects.specs.declared.object.Cell.{Cell}
 use Rattle.heap_objects.specs.declared.object.Cell.TheVariants as cell
 use Rattle.heap_objects.specs.declared.object.Object.{Object}

@@ -3,7 +3,7 @@ use Rattle.std.specs.Prelude.{◌≡◌, Bool, not, List, [], ◌∷◌, ◌++�
 use Rattle.flow_base.specs.Same.{key_eq}
 use Rattle.flow_base.specs.declared.key.Key.{Key}
 use Rattle.heap_objects.specs.Keyed.{key_of}
-use Rattle.heap_objects.specs.declared.dict.Entry.{Entry}
+use Rattle.heap_objects.specs.declared.tree.Entry.{Entry}
 use Rattle.heap_objects.specs.declared.value.Value.{Value}
 
 -- the entry of a key

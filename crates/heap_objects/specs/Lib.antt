@@ -4,6 +4,7 @@ pub mod Keyed
 pub mod Names
 pub mod Nesting
 pub mod Places
+pub mod Rows
 pub mod State
 pub mod StateCode
 pub mod Tree

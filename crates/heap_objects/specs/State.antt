@@ -16,7 +16,7 @@ use Rattle.flow_base.specs.declared.numbers.RunNo.{RunNo}
 use Rattle.flow_base.specs.declared.numbers.Sym.{Sym}
 use Rattle.heap_objects.specs.Entries.{entry_of, has_key}
 use Rattle.heap_objects.specs.Names.{slot_names, slot_value}
-use Rattle.heap_objects.specs.declared.dict.Entry.{Entry}
+use Rattle.heap_objects.specs.declared.tree.Entry.{Entry}
 use Rattle.heap_objects.specs.declared.object.Cell.{Cell}
 use Rattle.heap_objects.specs.declared.object.Cell.TheVariants as cell
 use Rattle.heap_objects.specs.declared.object.Content.{Content}

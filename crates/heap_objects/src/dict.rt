@@ -4,18 +4,11 @@ ghost use Rattle.std.specs.Option.{option_copied};
 ghost use Rattle.flow_base.specs.Same.{key_eq};
 ghost use Rattle.heap_objects.specs.Entries.{entry_of, with_entry, without};
 
+use crate::tree::Entry;
 use crate::value::Value;
 use flow_base::{Key, NoMemory, same_key};
 use std::alloc::Global;
 use std::marker::Model;
-
-/// An entry of a dictionary: its key, the value by which the key was first written, and the value that it holds.
-#[derive(Drop)]
-pub struct Entry {
-    pub key: Key,
-    pub spelled: Value,
-    pub value: Value,
-}
 
 /// The entries of a dictionary in the order in which their keys came. Contracts see the list of them.
 #[derive(Drop)]
@@ -28,7 +21,7 @@ impl Model for Dict {
     ghost use Rattle.std.specs.Coded.{codes};
     ghost use Rattle.flow_base.specs.contracts.key.Key as key;
     ghost use Rattle.heap_objects.specs.contracts.value.Value as value;
-    ghost use Rattle.heap_objects.specs.declared.dict.Entry.{Entry};
+    ghost use Rattle.heap_objects.specs.declared.tree.Entry.{Entry};
 
     ghost Value = { List Entry };
 

@@ -12,6 +12,7 @@ mod named;
 mod object;
 mod slots;
 mod storing;
+mod tree;
 mod value;
 
 pub use heap::Heap;
