@@ -1,5 +1,7 @@
+pub mod DictLaws
 pub mod EntryLaws
 pub mod EventLaws
 pub mod NameLaws
 pub mod RowLaws
 pub mod SlotLaws
+pub mod StampLaws

@@ -1,10 +1,13 @@
 pub mod Calls
+pub mod DictRows
 pub mod Entries
+pub mod Hash
 pub mod Keyed
 pub mod Names
 pub mod Nesting
 pub mod Places
 pub mod Rows
+pub mod Stamps
 pub mod State
 pub mod StateCode
 pub mod Tree

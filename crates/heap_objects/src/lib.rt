@@ -3,6 +3,7 @@
 
 mod cell;
 mod dict;
+mod hash;
 mod heap;
 mod items;
 mod keyed;
@@ -11,6 +12,7 @@ mod listing;
 mod named;
 mod object;
 mod slots;
+mod stamps;
 mod storing;
 mod tree;
 mod value;
