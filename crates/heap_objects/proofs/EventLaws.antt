@@ -1,10 +1,15 @@
 -- Lists of events, put at the end of others.
-use Rattle.std.proofs.Common.{◌≡◌, ℕ, zero, suc, ◌+◌, ◌-◌, ◌<◌, List, [], ◌∷◌, ◌++◌, refl, sym, ap, ◌∙◌, append_assoc, arith}
+use Rattle.std.proofs.Common.{◌≡◌, ℕ, zero, suc, ◌+◌, ◌-◌, ◌<◌, ◌≤◌, List, [], ◌∷◌, ◌++◌, refl, sym, ap, ◌∙◌, append_assoc, arith, drop, length}
 use Rattle.flow_base.specs.declared.event.Event.{Event}
 use Rattle.flow_base.specs.declared.event.Event.TheVariants.{Write}
 use Rattle.flow_base.specs.declared.numbers.ObjRef.{ObjRef}
-use Rattle.heap_objects.specs.Calls.{item_writes}
+use Rattle.std.specs.Prelude.{Some, slice_get}
+use Rattle.flow_base.specs.declared.loc.Loc.TheVariants.{Item, Present, Shape}
+use Rattle.heap_objects.specs.Calls.{entry_writes, item_writes}
 use Rattle.heap_objects.specs.State.{item}
+use Rattle.heap_objects.specs.declared.tree.Entry.{Entry}
+use Rattle.std.proofs.lemmas.List.{drop_all}
+use Rattle.heap_objects.proofs.SlotLaws.{none_some, same_some}
 
 -- no events more
 pub no_more : (es : List Event) → es ≡ es ++ []
@@ -25,6 +30,20 @@ writes-step o i to before now next lt is step =
     ∙ sym (append_assoc now (Write (item o i) ∷ []) (item_writes o (i + 1) (to - (i + 1))))
     ∙ ap (λ (x : List Event). x ++ item_writes o (i + 1) (to - (i + 1))) (sym step)
 
--- several events more, one by one
-pub two_more : (es fs gs : List Event) (a b : Event) → fs ≡ es ++ a ∷ [] → gs ≡ fs ++ b ∷ [] → gs ≡ es ++ a ∷ b ∷ []
-two_more es fs gs a b e f = f ∙ ap (λ (x : List Event). x ++ b ∷ []) e ∙ append_assoc es (a ∷ []) (b ∷ [])
+-- the first of the entries that are left
+pub drop-at : (es : List Entry) (i : ℕ) (e : Entry) → Some e ≡ slice_get es i → drop i es ≡ e ∷ drop (suc i) es
+drop-at [] i e h = absurd (none_some e (sym h))
+drop-at (x ∷ xs) zero e h = ap (λ (y : Entry). y ∷ xs) (sym (same_some e x h))
+drop-at (x ∷ xs) (suc i) e h = drop-at xs i e h
+
+-- the writes of one entry more
+pub entries-step : (d : ObjRef) (es : List Entry) (i : ℕ) (e : Entry) (before now next : List Event) → Some e ≡ slice_get es i → before ≡ now ++ entry_writes d (drop i es)
+    → next ≡ (now ++ Write (Item d e.key) ∷ []) ++ Write (Present d e.key) ∷ [] → before ≡ next ++ entry_writes d (drop (i + 1) es)
+entries-step d es i e before now next at is step =
+    let later : suc i ≡ i + 1 = omega arith in
+    is ∙ ap (λ (x : List Entry). now ++ entry_writes d x) (drop-at es i e at ∙ ap (λ (k : ℕ). e ∷ drop k es) later)
+    ∙ sym (append_assoc now (Write (Item d e.key) ∷ Write (Present d e.key) ∷ []) (entry_writes d (drop (i + 1) es)))
+    ∙ ap (λ (x : List Event). x ++ entry_writes d (drop (i + 1) es)) (sym (step ∙ append_assoc now (Write (Item d e.key) ∷ []) (Write (Present d e.key) ∷ [])))
+
+pub entries-end : (d : ObjRef) (es : List Entry) (i : ℕ) (before now : List Event) → length es ≤ i → before ≡ now ++ entry_writes d (drop i es) → before ≡ now ++ Write (Shape d) ∷ []
+entries-end d es i before now past is = is ∙ ap (λ (x : List Entry). now ++ entry_writes d x) (drop_all i es past)

@@ -5,3 +5,4 @@ pub mod NameLaws
 pub mod RowLaws
 pub mod SlotLaws
 pub mod StampLaws
+pub mod SymbolLaws

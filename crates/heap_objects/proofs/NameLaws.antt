@@ -9,7 +9,7 @@ use Rattle.heap_objects.specs.Names.{Names}
 use Rattle.heap_objects.specs.declared.value.Value.{Value}
 
 -- what a kept map is seen as, at a key
-seen : (m : BTreeMap ℕ Value) (q : ℕ) → map.get (map.from_entries {R = nat_cmp} m.entries) q ≡ get nat_cmp m q
+pub seen : (m : BTreeMap ℕ Value) (q : ℕ) → map.get (map.from_entries {R = nat_cmp} m.entries) q ≡ get nat_cmp m q
 seen m q = map.get-from_entries nat_cmp_total m.entries q
 
 flipped : (k q : ℕ) → is_at (nat_cmp k) q ≡ is_at (nat_cmp q) k

@@ -1,6 +1,6 @@
 -- The slots of a frame: where a name is found, and what a write changes.
 use Rattle.std.proofs.Common.{◌≡◌, ◌≢◌, ℕ, zero, suc, ◌+◌, ◌<◌, Bool, true, false, cond, List, [], ◌∷◌, ◌++◌, length, map, get_or, set, refl, sym, ap, subst, ◌∙◌, arith, eq-eqb, eqb-true, ltb-true, ne_eqb, nat_lt}
-use Rattle.std.specs.Prelude.{Option, Some, None, ◌==◌}
+use Rattle.std.specs.Prelude.{AllPairs, Option, Some, None, ◌==◌}
 use Rattle.std.proofs.lemmas.Bool.{false≢true}
 use Rattle.std.specs.Option.{is_some}
 use Rattle.std.specs.BTreeMap.{BTreeMap, get, is_at}
@@ -8,8 +8,8 @@ use Rattle.std.specs.Ordering.{is_eq, nat_cmp}
 use Rattle.std.specs.declared.cmp.Ordering.TheVariants.{Less, Equal, Greater}
 use Rattle.flow_base.specs.declared.numbers.Sym.{Sym}
 use Rattle.heap_objects.specs.declared.value.Value.{Value}
-use Rattle.heap_objects.specs.Names.{SlotList, new_slots, slot_value, with_slot}
-use Rattle.heap_objects.specs.Places.{ArePlaces, place_from}
+use Rattle.heap_objects.specs.Names.{SlotList, name_at, new_slots, slot_names, slot_value, with_slot}
+use Rattle.heap_objects.specs.Places.{ArePlaces, AreSlots, place_from}
 
 pub none_some : {T : Type 0} (x : T) → None ≡ Some x → ⊥
 none_some x e = false≢true (ap is_some e)
@@ -141,3 +141,60 @@ index_found places slots q i a e =
 pub index_none : (places : BTreeMap ℕ ℕ) (slots : SlotList) (q : Sym) → ArePlaces places slots → None ≡ get nat_cmp places q.0
     → (slot_value slots q ≡ None) × ((v : Option Value) → with_slot slots q v ≡ slots)
 index_none places slots q a e = not_found 0 slots q (sym (a q.0) ∙ sym e)
+
+-- ---- slots by their places
+
+pub name_at-slot : (slots : SlotList) (k : ℕ) (d : Sym × Option Value) → k < length slots → name_at (slot_names slots) k ≡ (get_or slots k d).0
+name_at-slot [] k d lt = absurd (omega arith)
+name_at-slot (s ∷ ss) zero d lt = refl
+name_at-slot (s ∷ ss) (suc k) d lt = name_at-slot ss k d (omega arith)
+
+pub length-slot_names : (slots : SlotList) → length (slot_names slots) ≡ length slots
+length-slot_names [] = refl
+length-slot_names (s ∷ ss) = ap suc (length-slot_names ss)
+
+names_apart : (s : Sym × Option Value) (ss : SlotList) (k : ℕ) (d : Sym × Option Value) → AllPairs (λ m n. m ≢ n) (slot_names (s ∷ ss)) → k < length ss → (s.0.0 == (get_or ss k d).0.0) ≡ false
+names_apart s ss k d apart lt =
+    ne_eqb s.0.0 (get_or ss k d).0.0 (λ e. apart 0 (suc k) (record { 0 = 0 }) (omega arith) (omega (arith, length-slot_names ss))
+    (ap (λ (x : ℕ). record { 0 = x }) e ∙ sym (name_at-slot ss k d lt)))
+
+distinct_rest : (s : Sym × Option Value) (ss : SlotList) → AllPairs (λ m n. m ≢ n) (slot_names (s ∷ ss)) → AllPairs (λ m n. m ≢ n) (slot_names ss)
+distinct_rest s ss apart = λ i j d lt le. apart (suc i) (suc j) d (omega arith) (omega arith)
+
+pub slot_value-at : (slots : SlotList) (k : ℕ) (d : Sym × Option Value) → AllPairs (λ m n. m ≢ n) (slot_names slots) → k < length slots → slot_value slots (get_or slots k d).0 ≡ (get_or slots k d).1
+slot_value-at [] k d apart lt = absurd (omega arith)
+slot_value-at (s ∷ ss) zero d apart lt = ap (λ (b : Bool). cond b s.1 (slot_value ss s.0)) (eq-eqb s.0.0 s.0.0 refl)
+slot_value-at (s ∷ ss) (suc k) d apart lt =
+    ap (λ (b : Bool). cond b s.1 (slot_value ss (get_or ss k d).0)) (names_apart s ss k d apart (omega arith)) ∙ slot_value-at ss k d (distinct_rest s ss apart) (omega arith)
+
+pub with_slot-at : (slots : SlotList) (k : ℕ) (d : Sym × Option Value) (v : Option Value) → AllPairs (λ m n. m ≢ n) (slot_names slots) → k < length slots
+    → with_slot slots (get_or slots k d).0 v ≡ set slots k ((get_or slots k d).0, v)
+with_slot-at [] k d v apart lt = refl
+with_slot-at (s ∷ ss) zero d v apart lt = ap (λ (b : Bool). cond b ((s.0, v) ∷ ss) (s ∷ with_slot ss s.0 v)) (eq-eqb s.0.0 s.0.0 refl)
+with_slot-at (s ∷ ss) (suc k) d v apart lt =
+    ap (λ (b : Bool). cond b ((s.0, v) ∷ ss) (s ∷ with_slot ss (get_or ss k d).0 v)) (names_apart s ss k d apart (omega arith))
+    ∙ ap (λ (x : SlotList). s ∷ x) (with_slot-at ss k d v (distinct_rest s ss apart) (omega arith))
+
+pub slot_names-set : (slots : SlotList) (k : ℕ) (d : Sym × Option Value) (v : Option Value) → slot_names (set slots k ((get_or slots k d).0, v)) ≡ slot_names slots
+slot_names-set [] k d v = refl
+slot_names-set (s ∷ ss) zero d v = refl
+slot_names-set (s ∷ ss) (suc k) d v = ap (λ (x : List Sym). s.0 ∷ x) (slot_names-set ss k d v)
+
+pub slot_names-new : (names : List Sym) → slot_names (new_slots names) ≡ names
+slot_names-new [] = refl
+slot_names-new (n ∷ ns) = ap (λ (x : List Sym). n ∷ x) (slot_names-new ns)
+
+-- a write leaves the index right
+pub AreSlots-set : (index : BTreeMap ℕ ℕ) (slots next : SlotList) (k : ℕ) (d : Sym × Option Value) (v : Option Value) → AreSlots index slots → next ≡ set slots k ((get_or slots k d).0, v) → AreSlots index next
+AreSlots-set index slots next k d v was is = record {
+  places = λ q. was.places q ∙ sym (place_from-set 0 slots k d v q) ∙ ap (λ (x : SlotList). place_from 0 x q) (sym is);
+  distinct = subst (AllPairs (λ m n. m ≢ n)) (sym (ap slot_names is ∙ slot_names-set slots k d v)) was.distinct;
+}
+
+some_place : (slots : SlotList) (n : Sym) (o : Option ℕ) → place_from 0 slots n.0 ≡ o → is_some (slot_value slots n) ≡ true → is_some o ≡ true
+some_place slots n (Some i) e h = refl
+some_place slots n None e h = absurd (false≢true (sym (ap is_some (not_found 0 slots n e).0) ∙ h))
+
+-- a name that holds a value has a place
+pub index_has : (index : BTreeMap ℕ ℕ) (slots : SlotList) (n : Sym) → ArePlaces index slots → is_some (slot_value slots n) ≡ true → is_some (get nat_cmp index n.0) ≡ true
+index_has index slots n a h = ap is_some (a n.0) ∙ some_place slots n (place_from 0 slots n.0) refl h

@@ -6,6 +6,7 @@ use Rattle.flow_base.specs.declared.event.Event.TheVariants as event
 use Rattle.flow_base.specs.declared.key.Key.{Key}
 use Rattle.flow_base.specs.declared.loc.Loc.{Loc}
 use Rattle.flow_base.specs.declared.loc.Loc.TheVariants as loc
+use Rattle.flow_base.specs.declared.numbers.CodeRef.{CodeRef}
 use Rattle.flow_base.specs.declared.numbers.ObjRef.{ObjRef}
 use Rattle.flow_base.specs.declared.numbers.Sym.{Sym}
 use Rattle.heap_objects.specs.Entries.{has_key, with_all, with_entry, without}
@@ -150,3 +151,6 @@ new_instance class s = made (object.Instance class) (cell.Attrs fin.empty) s
 
 unfoldable pub new_class : Sym → Option Value → State → State
 new_class name base s = made (object.Class name base) (cell.Attrs fin.empty) s
+
+unfoldable pub new_function : Sym → CodeRef → List Value → ObjRef → State → State
+new_function name code defaults parent s = made (object.Function name code defaults parent) cell.Nothing s

@@ -15,7 +15,7 @@ use Rattle.flow_base.specs.declared.numbers.ObjRef.{ObjRef}
 use Rattle.flow_base.specs.declared.numbers.RunNo.{RunNo}
 use Rattle.flow_base.specs.declared.numbers.Sym.{Sym}
 use Rattle.heap_objects.specs.Entries.{entry_of, has_key}
-use Rattle.heap_objects.specs.Names.{slot_names, slot_value}
+use Rattle.heap_objects.specs.Names.{name_at, slot_names, slot_value}
 use Rattle.heap_objects.specs.declared.tree.Entry.{Entry}
 use Rattle.heap_objects.specs.declared.object.Cell.{Cell}
 use Rattle.heap_objects.specs.declared.object.Cell.TheVariants as cell
@@ -179,6 +179,10 @@ slots_in _ = []
 -- the names of the slots of a function's frame, in order; they are no part of what a state means
 abbrev pub slots_at : State → ObjRef → List Sym
 slots_at s f = slots_in (cell_at s f)
+
+-- the location of a slot, which is that of its name
+abbrev pub slot_of : State → ObjRef → ℕ → Loc
+slot_of s f i = loc.Name f (name_at (slots_at s f) i)
 
 -- ---- names of objects
 

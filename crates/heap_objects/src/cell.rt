@@ -1,15 +1,17 @@
 // What the locations of one object hold.
-ghost use Rattle.std.specs.Prelude.{◌≡◌, ◌<◌, ◌≤◌, IfOk, OnOk, length, slice_get};
+ghost use Rattle.std.specs.Prelude.{◌≡◌, ◌<◌, ◌++◌, ◌∷◌, [], IfOk, OnOk, if◌then◌else◌, is_some, length, slice_get, None};
 ghost use Rattle.std.specs.Option.{option_copied};
 ghost use Rattle.flow_base.specs.declared.key.Key.{out-Key};
 ghost use Rattle.flow_base.specs.declared.key.Key.TheOpen as key;
 ghost use Rattle.heap_objects.specs.Calls as spec;
+ghost use Rattle.heap_objects.specs.Names.{AreNumbers, IsSymbols, name_at};
 ghost use Rattle.heap_objects.specs.State as spec_state;
 
 use crate::items::Items;
 use crate::object::Cell;
 use crate::value::Value;
 use flow_base::{Key, NoMemory, Sym};
+use std::alloc::Global;
 
 impl Cell {
     /// What a name of a frame holds.
@@ -65,6 +67,83 @@ impl Cell {
             Cell::List(items) => items.len(),
             Cell::Dict(dict) => dict.len(),
             _ => 0,
+        }
+    }
+
+    /// What a symbol holds in a frame, an instance or a class.
+    pub fn symbol(&self, name: Sym) -> Option<&Value>
+        ensures { option_copied result ≡ spec_state.symbol_in self.now name }
+    {
+        match self {
+            Cell::Global(names) => names.get(name),
+            Cell::Frame(slots) => slots.get(name),
+            Cell::Attrs(names) => names.get(name),
+            Cell::List(_) | Cell::Dict(_) | Cell::Nothing => None,
+        }
+    }
+
+    /// The symbols that hold a value, in ascending order of their numbers.
+    pub fn symbols(&self, alloc: Global) -> Result<Vec<Sym>, NoMemory>
+        ensures { IfOk result (λ names. IsSymbols (spec_state.symbol_in self.now) names.items) }
+    {
+        let numbers = self.numbers(alloc)?;
+        let mut names = Vec::new(alloc);
+        for number in &numbers {
+            self.push_if_held(&mut names, Sym(*number))?;
+        }
+        Ok(names)
+    }
+
+    fn push_if_held(&self, names: &mut Vec<Sym>, name: Sym) -> Result<(), NoMemory>
+        ensures { OnOk result (names.new.items ≡ names.old.items ++ (if is_some (spec_state.symbol_in self.now name) then name ∷ [] else [])) }
+    {
+        if self.symbol(name).is_some() {
+            names.push(name)?;
+        }
+        Ok(())
+    }
+
+    fn numbers(&self, alloc: Global) -> Result<Vec<u64>, NoMemory>
+        ensures { IfOk result (λ ns. AreNumbers (spec_state.symbol_in self.now) ns.items) }
+    {
+        match self {
+            Cell::Global(names) => names.numbers(alloc),
+            Cell::Frame(slots) => slots.numbers(alloc),
+            Cell::Attrs(names) => names.numbers(alloc),
+            Cell::List(_) | Cell::Dict(_) | Cell::Nothing => no_numbers(alloc),
+        }
+    }
+
+    /// The name of the slot of a frame at a place from 0.
+    pub fn slot_name(&self, at: usize) -> Sym
+        requires { at < length (spec_state.slots_in self.now) }
+        ensures { result ≡ name_at (spec_state.slots_in self.now) at }
+    {
+        match self {
+            Cell::Frame(slots) => slots.name(at),
+            _ => unreachable!(),
+        }
+    }
+
+    /// What the slot of a frame at a place holds.
+    pub fn slot(&self, at: usize) -> Option<&Value>
+        requires { at < length (spec_state.slots_in self.now) }
+        ensures { option_copied result ≡ spec_state.name_in self.now (name_at (spec_state.slots_in self.now) at) }
+    {
+        match self {
+            Cell::Frame(slots) => slots.value(at),
+            _ => unreachable!(),
+        }
+    }
+
+    /// The slot of a frame at a place holds the value, or nothing. Takes no memory.
+    pub fn set_slot(&mut self, at: usize, value: Option<Value>)
+        requires { at < length (spec_state.slots_in self.old) }
+        ensures { self.new ≡ spec.store_name (name_at (spec_state.slots_in self.old) at) value self.old }
+    {
+        match self {
+            Cell::Frame(slots) => slots.set_at(at, value),
+            _ => unreachable!(),
         }
     }
 
@@ -154,6 +233,13 @@ impl Cell {
             _ => {}
         }
     }
+}
+
+// The numbers of no names.
+fn no_numbers(alloc: Global) -> Result<Vec<u64>, NoMemory>
+    ensures { IfOk result (λ ns. AreNumbers (λ _. None) ns.items) }
+{
+    Ok(Vec::new(alloc))
 }
 
 // The item of a list at a key, which is its place from 0.

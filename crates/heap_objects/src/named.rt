@@ -1,8 +1,11 @@
 // Values by name.
-ghost use Rattle.std.specs.Prelude.{◌≡◌, IfOk, OnOk};
+ghost use Rattle.std.specs.Prelude.{◌≡◌, ℕ, IfOk, OnOk, is_some};
+ghost use Rattle.std.specs.BTreeMap.{IsOrdered, get, keys};
+ghost use Rattle.std.specs.List.{list_any};
+ghost use Rattle.std.specs.Ordering.{eq_by_cmp, nat_cmp};
 ghost use Rattle.std.specs.FinMap as map;
 ghost use Rattle.std.specs.Option.{option_copied};
-ghost use Rattle.heap_objects.specs.Names.{with_name};
+ghost use Rattle.heap_objects.specs.Names.{AreNumbers, with_name};
 
 use crate::value::Value;
 use flow_base::{NoMemory, Sym};
@@ -58,4 +61,22 @@ impl Named {
             }
         }
     }
+
+    /// The numbers of the names, in ascending order.
+    pub fn numbers(&self, alloc: Global) -> Result<Vec<u64>, NoMemory>
+        ensures { IfOk result (λ ns. AreNumbers (λ n. map.get self.now n.0) ns.items) }
+    {
+        let numbers = numbers_of(alloc, &self.held)?;
+        Ok(numbers)
+    }
+}
+
+/// The keys of a map, in ascending order.
+pub fn numbers_of<V>(alloc: Global, map: &BTreeMap<u64, V>) -> Result<Vec<u64>, NoMemory>
+    ensures keys { IfOk result (λ ns. ns.items ≡ keys map.now) }
+    ensures ordered { OnOk result (IsOrdered nat_cmp map.now) }
+    ensures all { OnOk result ((q : ℕ) → is_some (get nat_cmp map.now q) ≡ list_any (eq_by_cmp nat_cmp q) (keys map.now)) }
+{
+    let numbers: Vec<u64> = map.keys().copied().collect(alloc)?;
+    Ok(numbers)
 }

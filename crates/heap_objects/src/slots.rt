@@ -4,8 +4,9 @@ ghost use Rattle.std.specs.Option.{option_copied};
 ghost use Rattle.std.specs.Vec.{vec_len};
 ghost use Rattle.flow_base.specs.declared.numbers.Sym.{Sym};
 ghost use Rattle.heap_objects.specs.declared.value.Value.{Value};
-ghost use Rattle.heap_objects.specs.Names.{new_slots, slot_names, slot_value, with_slot};
+ghost use Rattle.heap_objects.specs.Names.{AreNumbers, name_at, new_slots, slot_names, slot_value, with_slot};
 
+use crate::named::numbers_of;
 use crate::value::Value;
 use flow_base::{NoMemory, Sym};
 use std::alloc::Global;
@@ -24,7 +25,7 @@ impl Model for Slots {
     ghost use Rattle.std.specs.Coded.{codes};
     ghost use Rattle.heap_objects.specs.contracts.value.Value as value;
     ghost use Rattle.heap_objects.specs.Names.{SlotList};
-    ghost use Rattle.heap_objects.specs.Places.{ArePlaces};
+    ghost use Rattle.heap_objects.specs.Places.{AreSlots};
 
     ghost Value = { SlotList };
 
@@ -32,7 +33,7 @@ impl Model for Slots {
 
     ghost view = { λ s. s.slots.items };
 
-    ghost invariant = { λ s. ArePlaces s.places s.slots.items };
+    ghost invariant = { λ s. AreSlots s.places s.slots.items };
 }
 
 impl Slots {
@@ -75,12 +76,36 @@ impl Slots {
         }
     }
 
+    /// The numbers of the names, in ascending order.
+    pub fn numbers(&self, alloc: Global) -> Result<Vec<u64>, NoMemory>
+        ensures { IfOk result (λ ns. AreNumbers (slot_value self.now) ns.items) }
+    {
+        let numbers = numbers_of(alloc, &self.places)?;
+        Ok(numbers)
+    }
+
     /// The name of the slot at a place from 0.
     pub fn name(&self, at: usize) -> Sym
         requires { at < length self.now }
-        ensures { result ≡ (slice_index_or self.now at (result, None)).0 }
+        ensures { result ≡ name_at (slot_names self.now) at }
     {
         self.slots[at].0
+    }
+
+    /// What the slot at a place holds, as by its name.
+    pub fn value(&self, at: usize) -> Option<&Value>
+        requires { at < length self.now }
+        ensures { option_copied result ≡ slot_value self.now (name_at (slot_names self.now) at) }
+    {
+        self.slots[at].1.as_ref()
+    }
+
+    /// The slot at a place holds the value, or nothing, as by its name. Takes no memory.
+    pub fn set_at(&mut self, at: usize, value: Option<Value>)
+        requires { at < length self.old }
+        ensures { self.new ≡ with_slot self.old (name_at (slot_names self.old) at) value }
+    {
+        put(&mut self.slots, at, value);
     }
 }
 

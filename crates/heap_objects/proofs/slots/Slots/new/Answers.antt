@@ -2,10 +2,12 @@ use Rattle.std.proofs.Common.{rules, ◌≡◌, ◌≢◌, ◌<◌, ℕ, ◌+◌
 use Rattle.std.proofs.lemmas.Grind.{common_steps}
 use Rattle.std.proofs.lemmas.List.{get_or-take, get_or_default}
 use Rattle.std.proofs.Math.Seq.{take-suc}
+use Rattle.std.specs.Prelude.{AllPairs}
+use Rattle.std.proofs.lemmas.List.{take_all}
 use Rattle.flow_base.specs.declared.numbers.Sym.{Sym}
-use Rattle.heap_objects.specs.Names.{SlotList, new_slots}
+use Rattle.heap_objects.specs.Names.{SlotList, new_slots, slot_names}
 use Rattle.heap_objects.specs.Places.{ArePlaces}
-use Rattle.heap_objects.proofs.SlotLaws.{ArePlaces-push, new_slots-push}
+use Rattle.heap_objects.proofs.SlotLaws.{ArePlaces-push, new_slots-push, slot_names-new}
 use Rattle.heap_objects.proofs.slots.Slots.new.Goals as goal
 
 pub loop-i-preserved : goal.loop-i-preserved
@@ -24,3 +26,9 @@ loop-i-preserved c =
       slots = pushed ∙ sym (new_slots-push (take i names) m) ∙ ap new_slots (sym next);
       places = ArePlaces-push c.loop-i.places c.insert.new.self (take i names) m c.push.new.self.items i so_far_places (sym so_far) apart pushed (λ q. (c.in_ok-insert.ensures.updates).0 q);
     }
+
+pub invariant_of-result : goal.invariant_of-result
+invariant_of-result c = record {
+  places = c.loop-i.invariant.places;
+  distinct = subst (AllPairs (λ m n. m ≢ n)) (sym (ap slot_names c.loop-i.invariant.slots ∙ slot_names-new (take c.loop-i.i c.args.names.now) ∙ take_all c.loop-i.i c.args.names.now (omega arith))) c.requires;
+}
