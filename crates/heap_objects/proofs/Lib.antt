@@ -5,4 +5,5 @@ pub mod NameLaws
 pub mod RowLaws
 pub mod SlotLaws
 pub mod StampLaws
+pub mod StartLaws
 pub mod SymbolLaws

@@ -8,6 +8,7 @@ pub mod Nesting
 pub mod Places
 pub mod Rows
 pub mod Stamps
+pub mod Starts
 pub mod State
 pub mod StateCode
 pub mod Tree

@@ -5,6 +5,7 @@ ghost use Rattle.heap_objects.specs.State as spec;
 
 use crate::named::Named;
 use crate::object::{Cell, Node, Object};
+use crate::starts::Starts;
 use crate::value::Value;
 use flow_base::{Event, Loc, NoMemory, ObjRef, ReadHow, RunNo};
 use std::alloc::Global;
@@ -19,7 +20,7 @@ pub struct Heap {
     pub(crate) nodes: Vec<Node>,
     pub(crate) events: Vec<Event>,
     run: RunNo,
-    starts: Vec<(RunNo, u64)>,
+    starts: Starts,
 }
 
 impl Model for Heap {
@@ -30,7 +31,7 @@ impl Model for Heap {
 
     ghost coded = { state_code };
 
-    ghost view = { λ h. record { nodes = h.nodes.items; events = h.events.items; run = h.run; starts = h.starts.items } };
+    ghost view = { λ h. record { nodes = h.nodes.items; events = h.events.items; run = h.run; starts = h.starts } };
 }
 
 impl Heap {
@@ -49,7 +50,7 @@ impl Heap {
             nodes,
             events: Vec::new(alloc),
             run: RunNo(0),
-            starts: Vec::new(alloc),
+            starts: Starts::new(alloc),
         })
     }
 
@@ -75,6 +76,15 @@ impl Heap {
         ensures { result.now ≡ self.now.events }
     {
         self.events.as_slice()
+    }
+
+    /// The name of an object: the run that made it, and its place, from 0, among the objects of that run. The global frame is
+    /// object 0 of run 0. Takes no memory.
+    #[tactic(auto, unfolding(crate::specs::State::origin_of))]
+    pub fn origin(&self, o: ObjRef) -> (RunNo, u64)
+        ensures { result ≡ spec.origin_of self.now o }
+    {
+        self.starts.origin(o.0)
     }
 
     /// Puts an event at the end of the event list: the begin or the end of a statement or of a call.
@@ -134,20 +144,8 @@ impl Heap {
     {
         let o = ObjRef(self.nodes.len() as u64);
         self.nodes.push(Node { object, cell })?;
-        if last_run(self.starts.as_slice()) != self.run {
-            self.starts.push((self.run, o.0))?;
-        }
+        self.starts.add(self.run, o.0)?;
         Ok(o)
-    }
-}
-
-// The last run that made objects.
-fn last_run(starts: &[(RunNo, u64)]) -> RunNo
-    ensures { result ≡ spec.last_run starts.now }
-{
-    match starts.last() {
-        Some(start) => start.0,
-        None => RunNo(0),
     }
 }
 

@@ -14,6 +14,7 @@ mod named;
 mod object;
 mod slots;
 mod stamps;
+mod starts;
 mod storing;
 mod tree;
 mod value;

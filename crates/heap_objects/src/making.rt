@@ -115,10 +115,15 @@ fn dict_of(alloc: Global, keys: &[Value], values: &[Value]) -> Result<Dict, NoMe
     let mut dict = Dict::new(alloc);
     let mut left = keys;
     let mut given = values;
-    while let ([key, keys @ ..], [value, values @ ..]) = (left, given) {
-        put(alloc, &mut dict, key, value)?;
-        left = keys;
-        given = values;
+    while let [key, keys @ ..] = left {
+        match given {
+            [value, values @ ..] => {
+                put(alloc, &mut dict, key, value)?;
+                left = keys;
+                given = values;
+            }
+            [] => return Ok(dict),
+        }
     }
     Ok(dict)
 }
