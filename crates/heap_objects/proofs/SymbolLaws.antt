@@ -16,7 +16,7 @@ same_any : (p q : ℕ → Bool) (xs : List ℕ) → ((x : ℕ) → p x ≡ q x) 
 same_any p q [] h = refl
 same_any p q (x ∷ xs) h = ap (λ (b : Bool). b || list_any p xs) (h x) ∙ ap (λ (b : Bool). q x || b) (same_any p q xs h)
 
-flip_eqb : (m n : ℕ) → (m == n) ≡ (n == m)
+pub flip_eqb : (m n : ℕ) → (m == n) ≡ (n == m)
 flip_eqb m n = go (m == n) (n == m) refl refl
   where
     go : (a b : Bool) → (m == n) ≡ a → (n == m) ≡ b → a ≡ b

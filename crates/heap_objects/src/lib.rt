@@ -24,3 +24,6 @@ pub use keyed::key_of;
 pub use object::{Content, Object};
 pub use storing::Syms;
 pub use value::{NESTING_LIMIT, Value, Values};
+
+#[cfg(test)]
+mod tests;

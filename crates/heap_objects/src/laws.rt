@@ -1,0 +1,35 @@
+// What the definitions mean.
+ghost use Rattle.std.specs.Prelude.{◌≡◌, ◌<◌, ℕ, List, [], ◌∷◌, Option, Some, length};
+ghost use Rattle.flow_base.specs.declared.event.Event.{Event};
+ghost use Rattle.flow_base.specs.declared.loc.Loc.TheVariants.{Attr, Name};
+ghost use Rattle.flow_base.specs.declared.numbers.ObjRef.{ObjRef};
+ghost use Rattle.flow_base.specs.declared.numbers.Sym.{Sym};
+ghost use Rattle.heap_objects.specs.Calls.{list_put, stored};
+ghost use Rattle.heap_objects.specs.Changes.{Wrote};
+ghost use Rattle.heap_objects.specs.Keyed.{key_of};
+ghost use Rattle.heap_objects.specs.Nesting.{IsNested, kept_nesting, nesting};
+ghost use Rattle.heap_objects.specs.State.{State, cell_at, held, item, logged};
+ghost use Rattle.heap_objects.specs.Storable.{HasAttrs, HoldsName};
+ghost use Rattle.heap_objects.specs.Tree.{depth, key_of_tree, tree_of};
+ghost use Rattle.heap_objects.specs.declared.object.Cell.TheVariants as cell;
+ghost use Rattle.heap_objects.specs.declared.value.Value.{Value};
+
+/// An event changes no object and no location. A write of a name, an attribute or an item changes that location alone,
+/// which holds then what was written.
+pub fn writes_law()
+    ensures event { (s : State) (e : Event) → Wrote [] s (logged e s) }
+    ensures name { (s : State) (f : ObjRef) (n : Sym) (v : Option Value) → HoldsName (cell_at s f) n
+        → Wrote ((Name f n, held v) ∷ []) s (stored (Name f n) v s) }
+    ensures attr { (s : State) (o : ObjRef) (n : Sym) (v : Option Value) → HasAttrs (cell_at s o)
+        → Wrote ((Attr o n, held v) ∷ []) s (stored (Attr o n) v s) }
+    ensures item { (s : State) (o : ObjRef) (items : List Value) (i : ℕ) (v : Value) → cell_at s o ≡ cell.List items → i < length items
+        → Wrote ((item o i, held (Some v)) ∷ []) s (list_put o i v s) }
+{}
+
+/// The nesting that tuples have beside their parts is the depth of the tree, where it is kept right, and the key of a value
+/// is that of its tree.
+pub fn values_law()
+    ensures nesting { (v : Value) → IsNested v → kept_nesting v ≡ nesting v }
+    ensures depth { (v : Value) → nesting v ≡ depth (tree_of v) }
+    ensures key { (v : Value) → key_of v ≡ key_of_tree (tree_of v) }
+{}
