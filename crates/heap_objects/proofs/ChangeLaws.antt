@@ -19,6 +19,18 @@ changed_head : (f : Cell → Cell) (n : Node) (ns : List Node) (i : ℕ) (o : Op
 changed_head f n ns i None = refl
 changed_head f n ns i (Some m) = refl
 
+zero_suc : (j : ℕ) → 0 ≡ suc j → ⊥
+zero_suc j e = let no : ⊥ = omega (arith, e) in no
+
+suc_eqb : (i j : ℕ) → (suc i == suc j) ≡ (i == j)
+suc_eqb i j = go (suc i == suc j) (i == j) refl refl
+  where
+    go : (a b : Bool) → (suc i == suc j) ≡ a → (i == j) ≡ b → a ≡ b
+    go true true e f = refl
+    go true false e f = let same : i ≡ j = omega (arith, eqb-true (suc i) (suc j) e) in absurd (true≢false (sym (eq-eqb i j same) ∙ f))
+    go false true e f = absurd (true≢false (sym (eq-eqb (suc i) (suc j) (ap suc (eqb-true i j f))) ∙ e))
+    go false false e f = refl
+
 -- the cell at a place after a change
 pub cell-changed : (f : Cell → Cell) (ns : List Node) (i j : ℕ) → f cell.Nothing ≡ cell.Nothing
     → cell_in (slice_get (changed f ns i) j) ≡ cond (i == j) (f (cell_in (slice_get ns j))) (cell_in (slice_get ns j))
@@ -28,10 +40,14 @@ cell-changed f [] i j e = go (i == j)
     go true = sym e
     go false = refl
 cell-changed f (n ∷ ns) zero zero e = refl
-cell-changed f (n ∷ ns) zero (suc j) e = refl
-cell-changed f (n ∷ ns) (suc i) zero e = ap (λ (x : List Node). cell_in (slice_get x zero)) (changed_head f n ns i (slice_get ns i))
+cell-changed f (n ∷ ns) zero (suc j) e =
+    sym (ap (λ (b : Bool). cond b (f (cell_in (slice_get ns j))) (cell_in (slice_get ns j))) (ne_eqb 0 (suc j) (λ p. zero_suc j p)))
+cell-changed f (n ∷ ns) (suc i) zero e =
+    ap (λ (x : List Node). cell_in (slice_get x zero)) (changed_head f n ns i (slice_get ns i))
+    ∙ sym (ap (λ (b : Bool). cond b (f n.cell) n.cell) (ne_eqb (suc i) 0 (λ p. zero_suc i (sym p))))
 cell-changed f (n ∷ ns) (suc i) (suc j) e =
     ap (λ (x : List Node). cell_in (slice_get x (suc j))) (changed_head f n ns i (slice_get ns i)) ∙ cell-changed f ns i j e
+    ∙ ap (λ (b : Bool). cond b (f (cell_in (slice_get ns j))) (cell_in (slice_get ns j))) (sym (suc_eqb i j))
 
 pub object-changed : (f : Cell → Cell) (ns : List Node) (i j : ℕ) → object_in (slice_get (changed f ns i) j) ≡ object_in (slice_get ns j)
 object-changed f [] i j = refl

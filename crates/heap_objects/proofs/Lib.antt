@@ -1,3 +1,5 @@
+pub mod CellLaws
+pub mod ChangeLaws
 pub mod DictLaws
 pub mod EntryLaws
 pub mod EventLaws
@@ -7,3 +9,5 @@ pub mod SlotLaws
 pub mod StampLaws
 pub mod StartLaws
 pub mod SymbolLaws
+pub mod ValueLaws
+pub mod WriteLaws

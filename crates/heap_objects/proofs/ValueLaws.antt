@@ -5,10 +5,10 @@ use Rattle.std.specs.Option.{option_map}
 use Rattle.flow_base.specs.declared.key.Key.{Key, roll-Key}
 use Rattle.flow_base.specs.declared.key.Key.TheOpen as key
 use Rattle.heap_objects.specs.Keyed.{all_of, key_of, key_step, tuple_key, with_first}
-use Rattle.heap_objects.specs.Nesting.{IsNested, IsNested_at, kept_nesting, kept_step, largest, nesting, nesting_step}
+use Rattle.heap_objects.specs.Nesting.{kept_nesting, kept_step, largest, nesting, nesting_step, tuple_of}
 use Rattle.heap_objects.specs.Tree.{Tree, Trees, deepest, depth, key_before, key_of_tree, keys_of_trees, tree_of, tree_step, trees_of, tuple_with}
-use Rattle.heap_objects.specs.declared.value.Value.{Value, out-Value, roll-Value}
-use Rattle.heap_objects.specs.declared.value.Value.TheFolds.{every_here-Value, every_held-Value, fold-roll-Value, fold_out-Value, ind-Value, map-Value}
+use Rattle.heap_objects.specs.declared.value.Value.{Value, roll-Value}
+use Rattle.heap_objects.specs.declared.value.Value.TheFolds.{fold-roll-Value, ind-Value, map-Value}
 use Rattle.heap_objects.specs.declared.value.Value.TheOpen as v
 use Rattle.heap_objects.specs.declared.value.Value.TheOpen.{Value-F}
 
@@ -46,8 +46,10 @@ nesting_is_depth = ind-Value Deep (λ x y e. subst (λ (z : Value-F Value). Deep
 
 -- ---- the nesting beside the parts
 
-Kept : Value → Type 0
-Kept x = IsNested x → kept_nesting x ≡ nesting x
+pub kept_in_tuples : (parts : List Value) → map kept_nesting parts ≡ map nesting parts → kept_nesting (tuple_of parts) ≡ nesting (tuple_of parts)
+kept_in_tuples parts e =
+    fold-roll-Value ℕ kept_step (v.Tuple parts (largest (map kept_nesting parts) + 1)) ∙ ap (λ ns. largest ns + 1) e
+    ∙ sym (fold-roll-Value ℕ nesting_step (v.Tuple parts (largest (map kept_nesting parts) + 1)))
 
 -- ---- the key
 

@@ -1,4 +1,5 @@
 pub mod Calls
+pub mod Changes
 pub mod DictRows
 pub mod Entries
 pub mod Hash
@@ -11,4 +12,5 @@ pub mod Stamps
 pub mod Starts
 pub mod State
 pub mod StateCode
+pub mod Storable
 pub mod Tree

@@ -1,5 +1,5 @@
 // What the definitions mean.
-ghost use Rattle.std.specs.Prelude.{◌≡◌, ◌<◌, ℕ, List, [], ◌∷◌, Option, Some, length};
+ghost use Rattle.std.specs.Prelude.{◌≡◌, ◌<◌, ℕ, List, [], ◌∷◌, Option, Some, length, map};
 ghost use Rattle.flow_base.specs.declared.event.Event.{Event};
 ghost use Rattle.flow_base.specs.declared.loc.Loc.TheVariants.{Attr, Name};
 ghost use Rattle.flow_base.specs.declared.numbers.ObjRef.{ObjRef};
@@ -7,7 +7,7 @@ ghost use Rattle.flow_base.specs.declared.numbers.Sym.{Sym};
 ghost use Rattle.heap_objects.specs.Calls.{list_put, stored};
 ghost use Rattle.heap_objects.specs.Changes.{Wrote};
 ghost use Rattle.heap_objects.specs.Keyed.{key_of};
-ghost use Rattle.heap_objects.specs.Nesting.{IsNested, kept_nesting, nesting};
+ghost use Rattle.heap_objects.specs.Nesting.{kept_nesting, nesting, tuple_of};
 ghost use Rattle.heap_objects.specs.State.{State, cell_at, held, item, logged};
 ghost use Rattle.heap_objects.specs.Storable.{HasAttrs, HoldsName};
 ghost use Rattle.heap_objects.specs.Tree.{depth, key_of_tree, tree_of};
@@ -26,10 +26,10 @@ pub fn writes_law()
         → Wrote ((item o i, held (Some v)) ∷ []) s (list_put o i v s) }
 {}
 
-/// The nesting that tuples have beside their parts is the depth of the tree, where it is kept right, and the key of a value
-/// is that of its tree.
+/// A tuple that is made of parts with their true nesting has its true nesting beside its parts. The nesting of a value is the
+/// depth of its tree, and its key is that of its tree.
 pub fn values_law()
-    ensures nesting { (v : Value) → IsNested v → kept_nesting v ≡ nesting v }
+    ensures nesting { (parts : List Value) → map kept_nesting parts ≡ map nesting parts → kept_nesting (tuple_of parts) ≡ nesting (tuple_of parts) }
     ensures depth { (v : Value) → nesting v ≡ depth (tree_of v) }
     ensures key { (v : Value) → key_of v ≡ key_of_tree (tree_of v) }
 {}

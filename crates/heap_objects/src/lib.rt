@@ -8,6 +8,7 @@ mod heap;
 mod items;
 mod keyed;
 mod keying;
+mod laws;
 mod listing;
 mod making;
 mod named;
@@ -21,6 +22,7 @@ mod value;
 
 pub use heap::Heap;
 pub use keyed::key_of;
+pub use laws::{values_law, writes_law};
 pub use object::{Content, Object};
 pub use storing::Syms;
 pub use value::{NESTING_LIMIT, Value, Values};
