@@ -1,11 +1,11 @@
 -- What the writes of names, attributes and items leave in a cell.
-use Rattle.std.proofs.Common.{◌≡◌, ◌≢◌, ℕ, zero, suc, ◌<◌, Bool, true, false, cond, List, [], ◌∷◌, length, set, refl, sym, ap, subst, ◌∙◌, arith, eq-eqb, eqb-true, ne_eqb}
-use Rattle.std.specs.Prelude.{Option, Some, None, ◌==◌, ◌&&◌, ◌||◌, pos, negsuc, slice_get}
+use Rattle.std.proofs.Common.{◌≡◌, ◌≢◌, ℕ, zero, suc, ◌<◌, Bool, true, false, cond, List, [], ◌∷◌, ◌++◌, map, length, set, refl, sym, ap, ◌∙◌, arith, eq-eqb, eqb-true, ne_eqb}
+use Rattle.std.specs.Prelude.{Option, Some, None, is_some, ◌==◌, ◌&&◌, ◌||◌, pos, negsuc, slice_get}
 use Rattle.std.specs.Cmp.{nat_cmp_total}
 use Rattle.std.specs.FinMap as fin
 use Rattle.std.specs.List.{list_any}
 use Rattle.std.proofs.lemmas.Bool.{false≢true, true≢false}
-use Rattle.flow_base.specs.Same.{key_eq, loc_eq}
+use Rattle.flow_base.specs.Same.{key_eq}
 use Rattle.flow_base.specs.declared.key.Key.{Key, out-Key, roll-Key}
 use Rattle.flow_base.specs.declared.key.Key.TheOpen as key
 use Rattle.flow_base.specs.declared.key.Key.TheOpen.{Key-F}
@@ -15,16 +15,19 @@ use Rattle.flow_base.specs.declared.loc.Loc.TheVariants as loc
 use Rattle.flow_base.specs.declared.numbers.ObjRef.{ObjRef}
 use Rattle.flow_base.specs.declared.numbers.Sym.{Sym}
 use Rattle.flow_base.proofs.SameLaws.{same_key_true, true_same_key}
-use Rattle.heap_objects.specs.Calls.{put_item, store_attr, store_name}
-use Rattle.heap_objects.specs.Changes.{after}
+use Rattle.heap_objects.specs.Calls.{put_entry, put_item, remove_entry, store_attr, store_name}
+use Rattle.heap_objects.specs.Changes.{after, put_change, remove_change}
+use Rattle.heap_objects.specs.Entries.{entry_of, has_key, with_value, without}
 use Rattle.heap_objects.specs.Names.{Names, SlotList, slot_value, with_name, with_slot}
-use Rattle.heap_objects.specs.State.{content_in, held, item, list_item, object_of}
+use Rattle.heap_objects.specs.State.{content_in, entry_value, held, item, list_item, object_of, present_if}
 use Rattle.heap_objects.specs.Storable.{HasAttrs, HoldsName}
 use Rattle.heap_objects.specs.declared.object.Cell.{Cell}
 use Rattle.heap_objects.specs.declared.object.Cell.TheVariants as cell
 use Rattle.heap_objects.specs.declared.object.Content.{Content}
-use Rattle.heap_objects.specs.declared.object.Content.TheVariants.{Length}
+use Rattle.heap_objects.specs.declared.object.Content.TheVariants.{Absent, Held, Keys, Length, Present}
+use Rattle.heap_objects.specs.declared.tree.Entry.{Entry}
 use Rattle.heap_objects.specs.declared.value.Value.{Value}
+use Rattle.heap_objects.proofs.EntryLaws.{entry-without, has_key-push, has_key-with_value, spelled-push, spelled-with_value, value-push, value-with_value}
 use Rattle.heap_objects.proofs.SlotLaws.{is_at-eqb}
 use Rattle.heap_objects.proofs.SymbolLaws.{flip_eqb}
 
@@ -139,3 +142,60 @@ put_law items o i v (loc.Item f k) lt e =
     ∙ own_key o f (roll-Key (key.Int (pos i))) k (held (Some v)) (held (list_item items (out-Key k))) e
 put_law items o i v (loc.Present f k) lt e = refl
 put_law items o i v (loc.Shape f) lt e = ap (λ (n : ℕ). Length n) (length-put items i v)
+
+-- ---- entries of dictionaries
+
+value_cond : (b : Bool) (o : Option Entry) → held (entry_value (cond b None o)) ≡ cond b Absent (held (entry_value o))
+value_cond true o = refl
+value_cond false o = refl
+
+present_cond : (b c : Bool) → present_if (cond b true c) ≡ cond b Present (present_if c)
+present_cond true c = refl
+present_cond false c = refl
+
+gone_cond : (b : Bool) (o : Option Entry) → present_if (is_some (cond b None o)) ≡ cond b Absent (present_if (is_some o))
+gone_cond true o = refl
+gone_cond false o = refl
+
+own_shape : (o f : ObjRef) (x y : Content) → o ≡ f → x ≡ cond (o.0 == f.0) x y
+own_shape o f x y e = sym (ap (λ (b : Bool). cond b x y) (eq-eqb o.0 f.0 (ap (λ (p : ObjRef). p.0) e)))
+
+put_present : (es : List Entry) (o : ObjRef) (k : Key) (v : Value) (l : Loc) → has_key es k ≡ true → o ≡ object_of l
+    → content_in (λ _. cell.Dict (with_value es k v)) l ≡ after ((loc.Item o k, Held v) ∷ []) (content_in (λ _. cell.Dict es)) l
+put_present es o k v (loc.Name f m) h e = refl
+put_present es o k v (loc.Attr f m) h e = refl
+put_present es o k v (loc.Item f j) h e =
+    ap held (value-with_value es k j v h) ∙ held-cond (key_eq k j) (Some v) (entry_value (entry_of es j)) ∙ own_key o f k j (Held v) (held (entry_value (entry_of es j))) e
+put_present es o k v (loc.Present f j) h e = ap present_if (has_key-with_value es k j v)
+put_present es o k v (loc.Shape f) h e = ap Keys (spelled-with_value es k v)
+
+put_absent : (es : List Entry) (o : ObjRef) (n : Entry) (l : Loc) → has_key es n.key ≡ false → o ≡ object_of l
+    → content_in (λ _. cell.Dict (es ++ n ∷ [])) l
+    ≡ after ((loc.Item o n.key, Held n.value) ∷ (loc.Present o n.key, Present) ∷ (loc.Shape o, Keys (map (λ e. e.spelled) es ++ n.spelled ∷ [])) ∷ []) (content_in (λ _. cell.Dict es)) l
+put_absent es o n (loc.Name f m) h e = refl
+put_absent es o n (loc.Attr f m) h e = refl
+put_absent es o n (loc.Item f j) h e =
+    ap held (value-push es n j h) ∙ held-cond (key_eq n.key j) (Some n.value) (entry_value (entry_of es j)) ∙ own_key o f n.key j (Held n.value) (held (entry_value (entry_of es j))) e
+put_absent es o n (loc.Present f j) h e =
+    ap present_if (has_key-push es n j) ∙ present_cond (key_eq n.key j) (has_key es j) ∙ own_key o f n.key j Present (present_if (has_key es j)) e
+put_absent es o n (loc.Shape f) h e = ap Keys (spelled-push es n) ∙ own_shape o f (Keys (map (λ e. e.spelled) es ++ n.spelled ∷ [])) (Keys (map (λ e. e.spelled) es)) e
+
+entry_law : (es : List Entry) (o : ObjRef) (k : Key) (spelled v : Value) (l : Loc) (b : Bool) → has_key es k ≡ b → o ≡ object_of l
+    → content_in (λ _. cell.Dict (cond b (with_value es k v) (es ++ record { key = k; spelled = spelled; value = v } ∷ []))) l
+    ≡ after (put_change o k spelled v es b) (content_in (λ _. cell.Dict es)) l
+entry_law es o k spelled v l true h e = put_present es o k v l h e
+entry_law es o k spelled v l false h e = put_absent es o (record { key = k; spelled = spelled; value = v }) l h e
+
+pub put_entry_law : (es : List Entry) (o : ObjRef) (k : Key) (spelled v : Value) (l : Loc) → o ≡ object_of l
+    → content_in (λ _. put_entry k spelled v (cell.Dict es)) l ≡ after (put_change o k spelled v es (has_key es k)) (content_in (λ _. cell.Dict es)) l
+put_entry_law es o k spelled v l e = entry_law es o k spelled v l (has_key es k) refl e
+
+pub remove_law : (es : List Entry) (o : ObjRef) (k : Key) (l : Loc) → o ≡ object_of l
+    → content_in (λ _. remove_entry k (cell.Dict es)) l ≡ after (remove_change o k es) (content_in (λ _. cell.Dict es)) l
+remove_law es o k (loc.Name f m) e = refl
+remove_law es o k (loc.Attr f m) e = refl
+remove_law es o k (loc.Item f j) e =
+    ap (λ (x : Option Entry). held (entry_value x)) (entry-without es k j) ∙ value_cond (key_eq k j) (entry_of es j) ∙ own_key o f k j Absent (held (entry_value (entry_of es j))) e
+remove_law es o k (loc.Present f j) e =
+    ap (λ (x : Option Entry). present_if (is_some x)) (entry-without es k j) ∙ gone_cond (key_eq k j) (entry_of es j) ∙ own_key o f k j Absent (present_if (has_key es j)) e
+remove_law es o k (loc.Shape f) e = own_shape o f (Keys (map (λ e. e.spelled) (without es k))) (Keys (map (λ e. e.spelled) es)) e

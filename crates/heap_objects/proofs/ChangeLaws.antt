@@ -1,19 +1,18 @@
 -- What a change of one object's cell changes of a state.
-use Rattle.std.proofs.Common.{◌≡◌, ◌≢◌, ℕ, zero, suc, Bool, true, false, cond, List, [], ◌∷◌, length, set, refl, sym, ap, subst, ◌∙◌, arith, eq-eqb, eqb-true, ne_eqb}
-use Rattle.std.specs.Prelude.{Option, Some, None, ◌==◌, ◌&&◌, slice_get}
-use Rattle.std.proofs.lemmas.Bool.{false≢true, true≢false, and_parts}
+use Rattle.std.proofs.Common.{◌≡◌, ◌≢◌, ℕ, zero, suc, Bool, true, false, cond, List, [], ◌∷◌, refl, sym, ap, ◌∙◌, arith, eq-eqb, eqb-true, ne_eqb}
+use Rattle.std.specs.Prelude.{Option, Some, None, ◌==◌, slice_get}
+use Rattle.std.proofs.lemmas.Bool.{true≢false}
 use Rattle.flow_base.specs.Same.{loc_eq}
 use Rattle.flow_base.specs.declared.loc.Loc.{Loc}
 use Rattle.flow_base.specs.declared.loc.Loc.TheVariants as loc
 use Rattle.flow_base.specs.declared.numbers.ObjRef.{ObjRef}
 use Rattle.flow_base.proofs.SameLaws.{same_loc_true}
 use Rattle.heap_objects.specs.Changes.{Wrote, after}
-use Rattle.heap_objects.specs.State.{State, cell_at, cell_in, changed, changed_at, content, content_in, object_at, object_in, object_of, with_cell}
+use Rattle.heap_objects.specs.State.{State, cell_at, cell_in, changed, changed_at, content, content_in, object_in, object_of, with_cell}
 use Rattle.heap_objects.specs.declared.object.Cell.{Cell}
 use Rattle.heap_objects.specs.declared.object.Cell.TheVariants as cell
 use Rattle.heap_objects.specs.declared.object.Content.{Content}
 use Rattle.heap_objects.specs.declared.object.Node.{Node}
-use Rattle.heap_objects.specs.declared.object.Object.{Object}
 
 changed_head : (f : Cell → Cell) (n : Node) (ns : List Node) (i : ℕ) (o : Option Node) → changed_at f (n ∷ ns) (suc i) o ≡ n ∷ changed_at f ns i o
 changed_head f n ns i None = refl

@@ -6,6 +6,7 @@ pub mod EventLaws
 pub mod NameLaws
 pub mod RowLaws
 pub mod SlotLaws
+pub mod SoundLaws
 pub mod StampLaws
 pub mod StartLaws
 pub mod SymbolLaws

@@ -1,5 +1,5 @@
 -- The slots of a frame: where a name is found, and what a write changes.
-use Rattle.std.proofs.Common.{◌≡◌, ◌≢◌, ℕ, zero, suc, ◌+◌, ◌<◌, Bool, true, false, cond, List, [], ◌∷◌, ◌++◌, length, map, get_or, set, refl, sym, ap, subst, ◌∙◌, arith, eq-eqb, eqb-true, ltb-true, ne_eqb, nat_lt}
+use Rattle.std.proofs.Common.{◌≡◌, ◌≢◌, ℕ, zero, suc, ◌+◌, ◌<◌, Bool, true, false, cond, List, [], ◌∷◌, ◌++◌, length, get_or, set, refl, sym, ap, subst, ◌∙◌, arith, eq-eqb, eqb-true, ltb-true, ne_eqb, nat_lt}
 use Rattle.std.specs.Prelude.{AllPairs, Option, Some, None, ◌==◌}
 use Rattle.std.proofs.lemmas.Bool.{false≢true}
 use Rattle.std.specs.Option.{is_some}
@@ -49,11 +49,15 @@ found_later s ss q k t f = record {
 
 found_head : (n : ℕ) (s : Sym × Option Value) (ss : SlotList) (q : Sym) (i : ℕ) (b : Bool) → (s.0.0 == q.0) ≡ b
     → (place_from (suc n) ss q.0 ≡ Some i → Place ss q (suc n) i) → cond b (Some n) (place_from (suc n) ss q.0) ≡ Some i → Place (s ∷ ss) q n i
-found_head n s ss q i true t rest e = (0, sym (same_some n i e) ∙ omega arith, record {
-  within = omega arith;
-  value = λ d. ap (λ (b : Bool). cond b s.1 (slot_value ss q)) t;
-  written = λ d v. ap (λ (b : Bool). cond b ((s.0, v) ∷ ss) (s ∷ with_slot ss q v)) t;
-})
+found_head n s ss q i true t rest e = (
+  0,
+  sym (same_some n i e) ∙ omega arith,
+  record {
+    within = omega arith;
+    value = λ d. ap (λ (b : Bool). cond b s.1 (slot_value ss q)) t;
+    written = λ d v. ap (λ (b : Bool). cond b ((s.0, v) ∷ ss) (s ∷ with_slot ss q v)) t;
+  },
+)
 found_head n s ss q i false t rest e = let r = rest e in (suc r.0, omega (arith, r.1), found_later s ss q r.0 t r.2)
 
 pub found : (n : ℕ) (slots : SlotList) (q : Sym) (i : ℕ) → place_from n slots q.0 ≡ Some i → Place slots q n i
@@ -66,9 +70,10 @@ NotFound slots q = (slot_value slots q ≡ None) × ((v : Option Value) → with
 not_found_head : (n : ℕ) (s : Sym × Option Value) (ss : SlotList) (q : Sym) (b : Bool) → (s.0.0 == q.0) ≡ b
     → (place_from (suc n) ss q.0 ≡ None → NotFound ss q) → cond b (Some n) (place_from (suc n) ss q.0) ≡ None → NotFound (s ∷ ss) q
 not_found_head n s ss q true t rest e = absurd (none_some n (sym e))
-not_found_head n s ss q false t rest e = let r = rest e in
-    (ap (λ (b : Bool). cond b s.1 (slot_value ss q)) t ∙ r.0,
-    λ v. ap (λ (b : Bool). cond b ((s.0, v) ∷ ss) (s ∷ with_slot ss q v)) t ∙ ap (λ (x : SlotList). s ∷ x) (r.1 v))
+not_found_head n s ss q false t rest e = let r = rest e in (
+  ap (λ (b : Bool). cond b s.1 (slot_value ss q)) t ∙ r.0,
+  λ v. ap (λ (b : Bool). cond b ((s.0, v) ∷ ss) (s ∷ with_slot ss q v)) t ∙ ap (λ (x : SlotList). s ∷ x) (r.1 v),
+)
 
 pub not_found : (n : ℕ) (slots : SlotList) (q : Sym) → place_from n slots q.0 ≡ None → NotFound slots q
 not_found n [] q e = (refl, λ v. refl)

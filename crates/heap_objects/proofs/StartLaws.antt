@@ -63,6 +63,7 @@ below_middle starts o m e ascend lt le i d i_lt = go (nat_lt i m) refl
   where
     there : (get_or starts m d).1 ≤ o
     there = subst (λ (s : RunNo × ℕ). s.1 ≤ o) (get_or_default starts m e d lt) le
+
     go : (b : Bool) → nat_lt i m ≡ b → (get_or starts i d).1 ≤ o
     go true t = let less : (get_or starts i d).1 < (get_or starts m d).1 = ascend i m d (ltb-true i m t) lt in omega (arith, less, there)
     go false t = let same : i ≡ m = omega (arith, ltb-false i m t) in subst (λ (k : ℕ). (get_or starts k d).1 ≤ o) (sym same) there
@@ -73,6 +74,7 @@ above_middle starts o m e ascend above i d le lt = go (nat_lt m i) refl
   where
     there : o < (get_or starts m d).1
     there = subst (λ (s : RunNo × ℕ). o < s.1) (get_or_default starts m e d (omega arith)) above
+
     go : (b : Bool) → nat_lt m i ≡ b → o < (get_or starts i d).1
     go true t = let less : (get_or starts m d).1 < (get_or starts i d).1 = ascend m i d (ltb-true m i t) lt in omega (arith, less, there)
     go false t = let same : m ≡ i = omega (arith, ltb-false m i t) in subst (λ (k : ℕ). o < (get_or starts k d).1) same there

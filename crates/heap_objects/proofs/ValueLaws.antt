@@ -1,12 +1,12 @@
 -- Values and the trees that they stand for.
-use Rattle.std.proofs.Common.{◌≡◌, ℕ, ◌+◌, max, Bool, true, false, List, [], ◌∷◌, map, refl, sym, ap, subst, ◌∙◌}
+use Rattle.std.proofs.Common.{◌≡◌, ℕ, ◌+◌, max, true, false, List, [], ◌∷◌, map, refl, sym, ap, subst, ◌∙◌}
 use Rattle.std.specs.Prelude.{Option, Some, None}
 use Rattle.std.specs.Option.{option_map}
 use Rattle.flow_base.specs.declared.key.Key.{Key, roll-Key}
 use Rattle.flow_base.specs.declared.key.Key.TheOpen as key
-use Rattle.heap_objects.specs.Keyed.{all_of, key_of, key_step, tuple_key, with_first}
+use Rattle.heap_objects.specs.Keyed.{all_of, key_of, key_step, with_first}
 use Rattle.heap_objects.specs.Nesting.{kept_nesting, kept_step, largest, nesting, nesting_step, tuple_of}
-use Rattle.heap_objects.specs.Tree.{Tree, Trees, deepest, depth, key_before, key_of_tree, keys_of_trees, tree_of, tree_step, trees_of, tuple_with}
+use Rattle.heap_objects.specs.Tree.{Tree, deepest, depth, key_before, key_of_tree, keys_of_trees, tree_of, tree_step, trees_of, tuple_with}
 use Rattle.heap_objects.specs.declared.value.Value.{Value, roll-Value}
 use Rattle.heap_objects.specs.declared.value.Value.TheFolds.{fold-roll-Value, ind-Value, map-Value}
 use Rattle.heap_objects.specs.declared.value.Value.TheOpen as v

@@ -1,22 +1,25 @@
 -- Writes of names, attributes and items change one location alone.
-use Rattle.std.proofs.Common.{◌≡◌, ℕ, ◌<◌, List, [], ◌∷◌, length, refl, sym, ap, subst, ◌∙◌}
-use Rattle.std.specs.Prelude.{Option, Some}
+use Rattle.std.proofs.Common.{◌≡◌, ℕ, ◌<◌, List, [], ◌∷◌, length, refl, sym, subst}
+use Rattle.std.specs.Prelude.{Bool, true, false, Option, Some}
 use Rattle.flow_base.specs.declared.event.Event.{Event}
 use Rattle.flow_base.specs.declared.event.Event.TheVariants.{Write}
+use Rattle.flow_base.specs.declared.key.Key.{Key}
 use Rattle.flow_base.specs.declared.loc.Loc.{Loc}
 use Rattle.flow_base.specs.declared.loc.Loc.TheVariants.{Attr, Name}
 use Rattle.flow_base.specs.declared.numbers.ObjRef.{ObjRef}
 use Rattle.flow_base.specs.declared.numbers.Sym.{Sym}
-use Rattle.heap_objects.specs.Calls.{list_put, put_item, store_attr, store_name, stored}
-use Rattle.heap_objects.specs.Changes.{Wrote, after}
-use Rattle.heap_objects.specs.State.{State, cell_at, content, content_in, held, item, logged, with_cell}
+use Rattle.heap_objects.specs.Calls.{dict_put, dict_remove, list_put, put_entry, put_events, put_item, remove_entry, remove_events, store_attr, store_name, stored}
+use Rattle.heap_objects.specs.Changes.{Wrote, after, put_change, remove_change}
+use Rattle.heap_objects.specs.Entries.{has_key}
+use Rattle.heap_objects.specs.State.{State, cell_at, content, content_in, held, item, logged, logged_all, object_of, with_cell}
 use Rattle.heap_objects.specs.Storable.{HasAttrs, HoldsName}
 use Rattle.heap_objects.specs.declared.object.Cell.{Cell}
 use Rattle.heap_objects.specs.declared.object.Cell.TheVariants as cell
 use Rattle.heap_objects.specs.declared.object.Content.{Content}
+use Rattle.heap_objects.specs.declared.tree.Entry.{Entry}
 use Rattle.heap_objects.specs.declared.value.Value.{Value}
-use Rattle.heap_objects.proofs.CellLaws.{attr_law, name_law, put_law}
-use Rattle.heap_objects.proofs.ChangeLaws.{wrote_cell}
+use Rattle.heap_objects.proofs.CellLaws.{attr_law, name_law, put_entry_law, put_law, remove_law}
+use Rattle.heap_objects.proofs.ChangeLaws.{AreOf, wrote_cell}
 
 pub nothing_wrote : (s : State) (e : Event) → Wrote [] s (logged e s)
 unfolding logged content
@@ -46,3 +49,27 @@ item_wrote s o items i v is lt =
     wrote_logged _ s (with_cell o (put_item i v) s) (Write (item o i))
     (wrote_cell o (put_item i v) ((item o i, held (Some v)) ∷ []) s refl (refl, tt)
     (λ l e. subst (λ (c : Cell). content_in (λ _. put_item i v c) l ≡ after ((item o i, held (Some v)) ∷ []) (content_in (λ _. c)) l) (sym is) (put_law items o i v l lt e)))
+
+-- several events behind some writes
+pub wrote_logged_all : (ws : List (Loc × Content)) (s t : State) (es : List Event) → Wrote ws s t → Wrote ws s (logged_all es t)
+unfolding logged_all content
+wrote_logged_all ws s t es w = record { objects = λ o. w.objects o; contents = λ l. w.contents l }
+
+put_of : (d : ObjRef) (k : Key) (spelled v : Value) (es : List Entry) (b : Bool) → AreOf d (put_change d k spelled v es b)
+put_of d k spelled v es true = (refl, tt)
+put_of d k spelled v es false = (refl, (refl, (refl, tt)))
+
+pub put_wrote : (s : State) (d : ObjRef) (es : List Entry) (k : Key) (spelled v : Value) → cell_at s d ≡ cell.Dict es
+    → Wrote (put_change d k spelled v es (has_key es k)) s (dict_put d k spelled v s)
+unfolding dict_put
+put_wrote s d es k spelled v is =
+    wrote_logged_all _ s (with_cell d (put_entry k spelled v) s) (put_events d k (cell_at s d))
+    (wrote_cell d (put_entry k spelled v) (put_change d k spelled v es (has_key es k)) s refl (put_of d k spelled v es (has_key es k))
+    (λ l e. subst (λ (c : Cell). content_in (λ _. put_entry k spelled v c) l ≡ after (put_change d k spelled v es (has_key es k)) (content_in (λ _. c)) l) (sym is) (put_entry_law es d k spelled v l e)))
+
+pub remove_wrote : (s : State) (d : ObjRef) (es : List Entry) (k : Key) → cell_at s d ≡ cell.Dict es → Wrote (remove_change d k es) s (dict_remove d k s)
+unfolding dict_remove
+remove_wrote s d es k is =
+    wrote_logged_all _ s (with_cell d (remove_entry k) s) (remove_events d k (cell_at s d))
+    (wrote_cell d (remove_entry k) (remove_change d k es) s refl (refl, (refl, (refl, tt)))
+    (λ l e. subst (λ (c : Cell). content_in (λ _. remove_entry k c) l ≡ after (remove_change d k es) (content_in (λ _. c)) l) (sym is) (remove_law es d k l e)))

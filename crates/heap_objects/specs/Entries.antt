@@ -1,5 +1,5 @@
 -- The entries of a dictionary: a list in which each key stands once.
-use Rattle.std.specs.Prelude.{◌≡◌, Bool, not, List, [], ◌∷◌, ◌++◌, filter, map, Option, Some, None, is_some, if◌then◌else◌}
+use Rattle.std.specs.Prelude.{Bool, not, List, [], ◌∷◌, ◌++◌, filter, Option, Some, None, is_some, if◌then◌else◌}
 use Rattle.flow_base.specs.Same.{key_eq}
 use Rattle.flow_base.specs.declared.key.Key.{Key}
 use Rattle.heap_objects.specs.Keyed.{key_of}

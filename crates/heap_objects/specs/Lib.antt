@@ -14,3 +14,4 @@ pub mod State
 pub mod StateCode
 pub mod Storable
 pub mod Tree
+pub mod WellFormed

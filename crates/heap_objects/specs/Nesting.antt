@@ -1,6 +1,6 @@
 -- How deep tuples and methods stand in one another: what a tuple has beside its parts, and what it is.
-use Rattle.std.specs.Prelude.{◌≡◌, ℕ, ◌+◌, ◌≤◌, ◌<◌, max, List, [], ◌∷◌, map}
-use Rattle.heap_objects.specs.declared.value.Value.{Value, fold-Value, out-Value, roll-Value}
+use Rattle.std.specs.Prelude.{◌≡◌, ℕ, ◌+◌, ◌<◌, max, List, [], ◌∷◌, map}
+use Rattle.heap_objects.specs.declared.value.Value.{Value, fold-Value, roll-Value}
 use Rattle.heap_objects.specs.declared.value.Value.TheFolds.{every-Value}
 use Rattle.heap_objects.specs.declared.value.Value.TheOpen.{Value-F, Tuple, Bound, Method}
 

@@ -1,6 +1,5 @@
 -- The rows of a tree, in the order of their stamps.
-use Rattle.std.specs.Prelude.{◌≡◌, ◌==◌, ◌+◌, ◌<◌, ◌≤◌, ℕ, not, List, [], ◌∷◌, ◌++◌, filter, length, map, Option, Some, None, if◌then◌else◌}
-use Rattle.heap_objects.specs.declared.tree.Entry.{Entry}
+use Rattle.std.specs.Prelude.{◌≡◌, ◌==◌, ◌+◌, ◌<◌, ◌≤◌, ℕ, not, List, [], ◌∷◌, ◌++◌, filter, length, Option, Some, None, if◌then◌else◌}
 use Rattle.heap_objects.specs.declared.tree.Row.{Row}
 use Rattle.heap_objects.specs.declared.tree.Tree.{Tree}
 use Rattle.heap_objects.specs.declared.tree.Tree.TheVariants.{Empty, Leaf, Branch'}

@@ -1,6 +1,6 @@
 -- The state of a run: the objects in the order of making, each with what its locations hold, the events so far, and at which
 -- object each run began to make objects.
-use Rattle.std.specs.Prelude.{◌≡◌, ◌==◌, ◌+◌, ◌-◌, ◌<◌, ℕ, zero, suc, Bool, true, false, List, [], ◌∷◌, ◌++◌, length, map, Option, Some, None, is_some, if◌then◌else◌, pos, set, slice_get, nat_lt}
+use Rattle.std.specs.Prelude.{◌==◌, ◌-◌, ℕ, Bool, true, false, List, [], ◌∷◌, ◌++◌, length, map, Option, Some, None, if◌then◌else◌, pos, set, slice_get, nat_lt}
 use Rattle.std.specs.FinMap as fin
 use Rattle.flow_base.specs.declared.event.Event.{Event}
 use Rattle.flow_base.specs.declared.event.ReadHow.{ReadHow}

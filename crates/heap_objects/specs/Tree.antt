@@ -1,5 +1,5 @@
 -- The plain trees that values stand for: texts are lists of code points, and a tuple has its parts alone.
-use Rattle.std.specs.Prelude.{ℕ, ◌+◌, max, ℤ, pos, Bool, true, false, List, [], ◌∷◌, map, Option, Some, None}
+use Rattle.std.specs.Prelude.{ℕ, ◌+◌, max, ℤ, pos, Bool, true, false, List, [], ◌∷◌, Option, Some, None}
 use Rattle.flow_base.specs.declared.key.Key.{Key, roll-Key}
 use Rattle.flow_base.specs.declared.key.Key.TheOpen as key
 use Rattle.flow_base.specs.declared.numbers.ObjRef.{ObjRef}

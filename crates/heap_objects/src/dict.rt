@@ -87,7 +87,11 @@ impl Dict {
     {
         match find_stamp(&self.tree, &key, self.index.at(hash_key(&key))) {
             Some(stamp) => set_value(&mut self.tree, stamp, key, spelled, value),
-            None => self.add(Entry { key, spelled, value }),
+            None => self.add(Entry {
+                key,
+                spelled,
+                value,
+            }),
         }
     }
 

@@ -183,12 +183,7 @@ fn log_remove(events: &mut Vec<Event>, nodes: &[Node], d: ObjRef, key: &Key) -> 
 }
 
 #[tactic(auto, using(crate::proofs::EventLaws::no_more))]
-fn log_remove_in(
-    events: &mut Vec<Event>,
-    cell: &Cell,
-    d: ObjRef,
-    key: &Key,
-) -> Result<(), NoMemory>
+fn log_remove_in(events: &mut Vec<Event>, cell: &Cell, d: ObjRef, key: &Key) -> Result<(), NoMemory>
     ensures { OnOk result (events.new.items ≡ events.old.items ++ calls.remove_events d key.now cell.now) }
 {
     match cell {

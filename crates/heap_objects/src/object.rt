@@ -15,7 +15,10 @@ pub enum Object {
     List,
     Dict,
     Instance(Value),
-    Class { name: Sym, base: Option<Value> },
+    Class {
+        name: Sym,
+        base: Option<Value>,
+    },
     Function {
         name: Sym,
         code: CodeRef,

@@ -138,12 +138,7 @@ fn set_slot(nodes: &mut Vec<Node>, at: usize, i: usize, v: Option<Value>)
     }
 }
 
-fn store_name(
-    nodes: &mut Vec<Node>,
-    at: usize,
-    name: Sym,
-    v: Option<Value>,
-) -> Result<(), NoMemory>
+fn store_name(nodes: &mut Vec<Node>, at: usize, name: Sym, v: Option<Value>) -> Result<(), NoMemory>
     ensures { OnOk result (nodes.new.items ≡ spec.changed (calls.store_name name v) nodes.old.items at) }
 {
     match nodes.get_mut(at) {
@@ -152,12 +147,7 @@ fn store_name(
     }
 }
 
-fn store_attr(
-    nodes: &mut Vec<Node>,
-    at: usize,
-    name: Sym,
-    v: Option<Value>,
-) -> Result<(), NoMemory>
+fn store_attr(nodes: &mut Vec<Node>, at: usize, name: Sym, v: Option<Value>) -> Result<(), NoMemory>
     ensures { OnOk result (nodes.new.items ≡ spec.changed (calls.store_attr name v) nodes.old.items at) }
 {
     match nodes.get_mut(at) {

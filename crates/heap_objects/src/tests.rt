@@ -137,7 +137,12 @@ fn names_attributes_and_slots(rt: HostRuntime) -> Result<(), Fail> {
     assert_eq!(rt; heap.syms(instance)?.as_slice(), [Sym(7)].as_slice());
     heap.store(&attr, None)?;
     assert_eq!(rt; heap.syms(instance)?.len(), 0);
-    assert!(rt; matches!(heap.object(instance), Object::Instance(Value::Obj(ObjRef(2)))));
+    assert!(rt;
+        matches!(
+            heap.object(instance),
+            Object::Instance(Value::Obj(ObjRef(2)))
+        )
+    );
     Ok(())
 }
 
@@ -190,7 +195,12 @@ fn dictionaries(rt: HostRuntime) -> Result<(), Fail> {
     assert_eq!(rt; heap.count(d), 2);
     assert!(rt; is_int(&heap.peek(&item(d, 1))?, 30));
     heap.dict_put(d, &Value::Truth(true), Value::Int(5))?;
-    assert!(rt; ends_with(&heap, &[('p', Loc::Present(d, Key::Int(1))), ('w', item(d, 1))]));
+    assert!(rt;
+        ends_with(
+            &heap,
+            &[('p', Loc::Present(d, Key::Int(1))), ('w', item(d, 1))]
+        )
+    );
     if heap.count(d) > 0 {
         assert!(rt; is_int(&Some(heap.key_at(d, 0)?), 1));
     }
@@ -281,7 +291,12 @@ fn names_of_objects(rt: HostRuntime) -> Result<(), Fail> {
         node: 2,
     };
     let third = heap.new_function(Sym(1), code, numbers(a, &[1])?, ObjRef(0))?;
-    for (object, run, place) in [(ObjRef(0), 0, 0), (first, 3, 0), (second, 3, 1), (third, 5, 0)] {
+    for (object, run, place) in [
+        (ObjRef(0), 0, 0),
+        (first, 3, 0),
+        (second, 3, 1),
+        (third, 5, 0),
+    ] {
         let (r, k) = heap.origin(object);
         assert_eq!(rt; r.0, run);
         assert_eq!(rt; k, place);

@@ -61,13 +61,7 @@ impl Tree {
     {
         match self {
             Tree::Empty => None,
-            Tree::Leaf(row) => {
-                if place == 0 {
-                    Some(row)
-                } else {
-                    None
-                }
-            }
+            Tree::Leaf(row) => { if place == 0 { Some(row) } else { None } }
             Tree::Branch(left, _, right) => {
                 let before = left.len();
                 if place < before {
@@ -86,13 +80,7 @@ impl Tree {
     {
         match self {
             Tree::Empty => None,
-            Tree::Leaf(row) => {
-                if row.stamp == stamp {
-                    Some(row)
-                } else {
-                    None
-                }
-            }
+            Tree::Leaf(row) => { if row.stamp == stamp { Some(row) } else { None } }
             Tree::Branch(left, mark, right) => {
                 if stamp < mark.split {
                     left.find(stamp)

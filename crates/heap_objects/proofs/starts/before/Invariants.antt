@@ -7,7 +7,7 @@ invariant-loop-low l = record {
   order : l.low ≤ l.high;
   within : l.high ≤ length l.starts;
   below : (i : ℕ) (d : RunNo × ℕ) → i < l.low → (get_or l.starts i d).1 ≤ l.object;
-  above : (i : ℕ) (d : RunNo × ℕ) → l.high ≤ i → i < length l.starts → l.object < (get_or l.starts i d).1
+  above : (i : ℕ) (d : RunNo × ℕ) → l.high ≤ i → i < length l.starts → l.object < (get_or l.starts i d).1;
 }
 
 abbrev pub decreases-loop-low : goal.decreases-loop-low

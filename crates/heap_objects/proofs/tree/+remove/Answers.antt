@@ -21,7 +21,7 @@ Tree::remove-overflow_add-mark t c =
     let left : List Row = rows c.in-Branch.left.value in
     let right : List Row = rows c.in-Branch.right.value in
     let now : rows c.remove_side.new.left ++ rows c.remove_side.new.right ≡ without_stamp (left ++ right) c.args.stamp =
-        rw (← c.deref_mut.ensures.value, ← c.deref_mut-in-Branch.ensures.value) c.remove_side.ensures.rows in
+    rw (← c.deref_mut.ensures.value, ← c.deref_mut-in-Branch.ensures.value) c.remove_side.ensures.rows in
     let lefts : c.len.result ≡ length (rows c.remove_side.new.left) = c.len.ensures ∙ ap (λ (x : Tree). length (rows x)) c.deref.ensures in
     let rights : c.len-in-Branch.result ≡ length (rows c.remove_side.new.right) = c.len-in-Branch.ensures ∙ ap (λ (x : Tree). length (rows x)) c.deref-in-Branch.ensures in
     omega (arith, fits, lefts, rights, ap length now, length-append (rows c.remove_side.new.left) (rows c.remove_side.new.right), length-without_stamp (left ++ right) c.args.stamp)

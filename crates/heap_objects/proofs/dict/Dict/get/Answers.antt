@@ -13,7 +13,7 @@ returns-in-Some c =
     let d = c.self.inside in
     let stamps : c.at.result.now ≡ stamps_at d.index.listed (hash_key c.args.key.now) = c.at.ensures ∙ ap (stamps_at d.index.listed) c.hash_key.ensures in
     let found : row_among (rows d.tree) c.args.key.now (stamps_at d.index.listed (hash_key c.args.key.now)) ≡ Some c.in-Some.row.now =
-        sym (c.in-Some.ensures ∙ ap (row_among (rows d.tree) c.args.key.now) stamps) in
+    sym (c.in-Some.ensures ∙ ap (row_among (rows d.tree) c.args.key.now) stamps) in
     sym (finds_entry d.index.listed d.next d.tree c.self.invariant c.args.key.now c.in-Some.row.now found) ∙ ap (λ (es : List Entry). entry_of es c.args.key.now) c.self.view_is
 
 pub returns-in-None : goal.returns-in-None
@@ -21,5 +21,5 @@ returns-in-None c =
     let d = c.self.inside in
     let stamps : c.at.result.now ≡ stamps_at d.index.listed (hash_key c.args.key.now) = c.at.ensures ∙ ap (stamps_at d.index.listed) c.hash_key.ensures in
     let found : row_among (rows d.tree) c.args.key.now (stamps_at d.index.listed (hash_key c.args.key.now)) ≡ None =
-        sym (c.in-None.ensures ∙ ap (row_among (rows d.tree) c.args.key.now) stamps) in
+    sym (c.in-None.ensures ∙ ap (row_among (rows d.tree) c.args.key.now) stamps) in
     sym (lacks_entry d.index.listed d.next d.tree c.self.invariant c.args.key.now found) ∙ ap (λ (es : List Entry). entry_of es c.args.key.now) c.self.view_is

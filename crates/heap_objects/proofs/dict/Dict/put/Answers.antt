@@ -21,7 +21,7 @@ add-requires c =
     let d = c.self.inside in
     let stamps : c.at.result.now ≡ stamps_at d.index.listed (hash_key c.args.key) = c.at.ensures ∙ ap (stamps_at d.index.listed) c.hash_key.ensures in
     let found : None ≡ option_map (λ r. r.stamp) (row_among (rows d.tree) c.args.key (stamps_at d.index.listed (hash_key c.args.key))) =
-        c.in-None.ensures ∙ ap (λ (ss : List ℕ). option_map (λ (r : Row). r.stamp) (row_among (rows d.tree) c.args.key ss)) stamps in
+    c.in-None.ensures ∙ ap (λ (ss : List ℕ). option_map (λ (r : Row). r.stamp) (row_among (rows d.tree) c.args.key ss)) stamps in
     ap (λ (es : List Entry). entry_of es c.args.key) (sym c.self.view_is) ∙ absent_entry d.index.listed d.next d.tree c.self.invariant c.args.key found
 
 pub returns-in-Some : goal.returns-in-Some
@@ -29,7 +29,7 @@ returns-in-Some c =
     let d = c.self.inside in
     let stamps : c.at.result.now ≡ stamps_at d.index.listed (hash_key c.args.key) = c.at.ensures ∙ ap (stamps_at d.index.listed) c.hash_key.ensures in
     let found : Some c.in-Some.stamp ≡ option_map (λ r. r.stamp) (row_among (rows d.tree) c.args.key (stamps_at d.index.listed (hash_key c.args.key))) =
-        c.in-Some.ensures ∙ ap (λ (ss : List ℕ). option_map (λ (r : Row). r.stamp) (row_among (rows d.tree) c.args.key ss)) stamps in
+    c.in-Some.ensures ∙ ap (λ (ss : List ℕ). option_map (λ (r : Row). r.stamp) (row_among (rows d.tree) c.args.key ss)) stamps in
     always c.set_value.result _ (sets_value d.index.listed d.next d.tree c.self.invariant c.set_value.new.tree c.args.key c.in-Some.stamp c.args.spelled c.args.value found c.set_value.ensures.rows
     ∙ ap (λ (es : List Entry). with_entry es c.args.key c.args.spelled c.args.value) c.self.view_is)
 
@@ -38,8 +38,8 @@ returns-in-None c =
     let d = c.self.inside in
     let stamps : c.at.result.now ≡ stamps_at d.index.listed (hash_key c.args.key) = c.at.ensures ∙ ap (stamps_at d.index.listed) c.hash_key.ensures in
     let found : None ≡ option_map (λ r. r.stamp) (row_among (rows d.tree) c.args.key (stamps_at d.index.listed (hash_key c.args.key))) =
-        c.in-None.ensures ∙ ap (λ (ss : List ℕ). option_map (λ (r : Row). r.stamp) (row_among (rows d.tree) c.args.key ss)) stamps in
+    c.in-None.ensures ∙ ap (λ (ss : List ℕ). option_map (λ (r : Row). r.stamp) (row_among (rows d.tree) c.args.key ss)) stamps in
     let absent : entry_of c.args.self.now c.args.key ≡ None =
-        ap (λ (es : List Entry). entry_of es c.args.key) (sym c.self.view_is) ∙ absent_entry d.index.listed d.next d.tree c.self.invariant c.args.key found in
+    ap (λ (es : List Entry). entry_of es c.args.key) (sym c.self.view_is) ∙ absent_entry d.index.listed d.next d.tree c.self.invariant c.args.key found in
     on_ok c.add.result _ _ (λ is. is ∙ ap (λ b. cond b (with_value c.args.self.now c.args.key c.args.value)
-        (c.args.self.now ++ record { key = c.args.key; spelled = c.args.spelled; value = c.args.value } ∷ [])) (sym (ap is_some absent))) c.add.ensures
+    (c.args.self.now ++ record { key = c.args.key; spelled = c.args.spelled; value = c.args.value } ∷ [])) (sym (ap is_some absent))) c.add.ensures

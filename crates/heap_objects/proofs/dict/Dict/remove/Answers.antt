@@ -20,7 +20,7 @@ returns-in-Some c =
     let d = c.self.inside in
     let stamps : c.at.result.now ≡ stamps_at d.index.listed (hash_key c.args.key.now) = c.at.ensures ∙ ap (stamps_at d.index.listed) c.hash_key-number.ensures in
     let found : Some c.in-Some.stamp ≡ option_map (λ r. r.stamp) (row_among (rows d.tree) c.args.key.now (stamps_at d.index.listed (hash_key c.args.key.now))) =
-        c.in-Some.ensures ∙ ap (λ (ss : List ℕ). option_map (λ (r : Row). r.stamp) (row_among (rows d.tree) c.args.key.now ss)) stamps in
+    c.in-Some.ensures ∙ ap (λ (ss : List ℕ). option_map (λ (r : Row). r.stamp) (row_among (rows d.tree) c.args.key.now ss)) stamps in
     removes_entry d.index.listed d.next d.tree c.self.invariant c.remove.new.self c.args.key.now c.in-Some.stamp found c.remove.ensures.rows
     ∙ ap (λ (es : List Entry). without es c.args.key.now) c.self.view_is
 
@@ -29,5 +29,5 @@ returns-in-None c =
     let d = c.self.inside in
     let stamps : c.at.result.now ≡ stamps_at d.index.listed (hash_key c.args.key.now) = c.at.ensures ∙ ap (stamps_at d.index.listed) c.hash_key-number.ensures in
     let found : None ≡ option_map (λ r. r.stamp) (row_among (rows d.tree) c.args.key.now (stamps_at d.index.listed (hash_key c.args.key.now))) =
-        c.in-None.ensures ∙ ap (λ (ss : List ℕ). option_map (λ (r : Row). r.stamp) (row_among (rows d.tree) c.args.key.now ss)) stamps in
+    c.in-None.ensures ∙ ap (λ (ss : List ℕ). option_map (λ (r : Row). r.stamp) (row_among (rows d.tree) c.args.key.now ss)) stamps in
     sym c.self.view_is ∙ removes_nothing d.index.listed d.next d.tree c.self.invariant c.args.key.now found ∙ ap (λ (es : List Entry). without es c.args.key.now) c.self.view_is

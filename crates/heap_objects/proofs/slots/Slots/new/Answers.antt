@@ -20,7 +20,7 @@ loop-i-preserved c =
     let next : take (i + 1) names ≡ take i names ++ m ∷ [] = grind (arith, take-suc) in
     let pushed : c.push.new.self.items ≡ new_slots (take i names) ++ (m, None) ∷ [] = grind (arith, common_steps) in
     let apart : (k : ℕ) → k < length (take i names) → get_or (take i names) k m ≢ m = λ k lt e.
-        c.requires k i m (omega arith) inside (sym (get_or-take i names k m (omega arith)) ∙ e ∙ get_or_default names i (record { 0 = 0 }) m inside) in
+    c.requires k i m (omega arith) inside (sym (get_or-take i names k m (omega arith)) ∙ e ∙ get_or_default names i (record { 0 = 0 }) m inside) in
     let so_far_places : ArePlaces c.loop-i.places (new_slots (take i names)) = subst (ArePlaces c.loop-i.places) c.loop-i.invariant.slots c.loop-i.invariant.places in
     record {
       slots = pushed ∙ sym (new_slots-push (take i names) m) ∙ ap new_slots (sym next);

@@ -12,7 +12,7 @@ invariant_of-self-2 c =
     let items : List (RunNo × ℕ) = c.self.inside.starts.items in
     let same : c.as_slice-2.result.now ≡ items = c.as_slice-2.ensures.value in
     let below : (i : ℕ) (d : RunNo × ℕ) → i < length items → (get_or items i d).1 < c.args.object = λ i d lt.
-        let within : i < c.before-2.result = omega (arith, c.len.ensures, lt) in
-        let least : (get_or items i d).1 ≤ c.args.object - 1 = subst (λ (x : List (RunNo × ℕ)). (get_or x i d).1 ≤ c.args.object - 1) same (c.before-2.ensures.below i d within) in
-        omega (arith, least) in
+    let within : i < c.before-2.result = omega (arith, c.len.ensures, lt) in
+    let least : (get_or items i d).1 ≤ c.args.object - 1 = subst (λ (x : List (RunNo × ℕ)). (get_or x i d).1 ≤ c.args.object - 1) same (c.before-2.ensures.below i d within) in
+    omega (arith, least) in
     subst AreAscending (sym c.in_ok-push.ensures.items) (ascending_push items (c.args.run, c.args.object) c.args.object c.self.invariant refl below)
