@@ -1,6 +1,6 @@
 -- Rows in the order of their stamps, in two parts.
-use Rattle.std.proofs.Common.{◌≡◌, ◌≢◌, ℕ, ◌+◌, ◌<◌, ◌≤◌, Bool, true, false, not, cond, List, [], ◌∷◌, ◌++◌, length, refl, sym, ap, ◌∙◌, arith, ne_eqb, eqb-true}
-use Rattle.std.specs.Prelude.{Option, Some, None, ◌==◌, filter}
+use Rattle.std.proofs.Common.{◌≡◌, ◌≢◌, ℕ, ◌<◌, ◌≤◌, Bool, true, false, not, cond, List, [], ◌∷◌, ◌++◌, length, refl, ap, ◌∙◌, arith, ne_eqb}
+use Rattle.std.specs.Prelude.{Option, Some, None, ◌==◌}
 use Rattle.heap_objects.specs.Rows.{AllBelow, AllFrom, row_of, with_stamp, without_stamp}
 use Rattle.heap_objects.specs.declared.tree.Row.{Row}
 use Rattle.heap_objects.specs.declared.value.Value.{Value}

@@ -1,16 +1,8 @@
 -- What keeps a state sound.
-use Rattle.std.proofs.Common.{◌≡◌, ℕ, zero, suc, List, [], ◌∷◌, refl, sym, ap, subst, ◌∙◌}
-use Rattle.std.specs.Prelude.{Option, Some, None, slice_get}
-use Rattle.std.specs.FinMap as fin
-use Rattle.std.specs.Ordering.{nat_cmp}
 use Rattle.flow_base.specs.declared.event.Event.{Event}
-use Rattle.flow_base.specs.declared.numbers.ObjRef.{ObjRef}
 use Rattle.flow_base.specs.declared.numbers.RunNo.{RunNo}
-use Rattle.heap_objects.specs.State.{State, begun, logged, object_at, start}
-use Rattle.heap_objects.specs.WellFormed.{Fits, Holds, IsFixed, IsSound, Refers}
-use Rattle.heap_objects.specs.declared.object.Node.{Node}
-use Rattle.heap_objects.specs.declared.value.Value.{Value}
-use Rattle.heap_objects.proofs.SlotLaws.{none_some, same_some}
+use Rattle.heap_objects.specs.State.{State, begun, logged}
+use Rattle.heap_objects.specs.WellFormed.{IsSound}
 
 pub event_sound : (s : State) (e : Event) → IsSound s → IsSound (logged e s)
 unfolding logged

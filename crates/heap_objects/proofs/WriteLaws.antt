@@ -11,7 +11,7 @@ use Rattle.flow_base.specs.declared.numbers.Sym.{Sym}
 use Rattle.heap_objects.specs.Calls.{dict_put, dict_remove, list_put, put_entry, put_events, put_item, remove_entry, remove_events, store_attr, store_name, stored}
 use Rattle.heap_objects.specs.Changes.{Wrote, after, put_change, remove_change}
 use Rattle.heap_objects.specs.Entries.{has_key}
-use Rattle.heap_objects.specs.State.{State, cell_at, content, content_in, held, item, logged, logged_all, object_of, with_cell}
+use Rattle.heap_objects.specs.State.{State, cell_at, content, content_in, held, item, logged, logged_all, with_cell}
 use Rattle.heap_objects.specs.Storable.{HasAttrs, HoldsName}
 use Rattle.heap_objects.specs.declared.object.Cell.{Cell}
 use Rattle.heap_objects.specs.declared.object.Cell.TheVariants as cell

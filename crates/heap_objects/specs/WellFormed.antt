@@ -1,5 +1,5 @@
 -- Which states are well formed.
-use Rattle.std.specs.Prelude.{◌≡◌, ◌≢◌, ◌<◌, ◌≤◌, Bool, false, IsTrue, ℕ, ℤ, ◌+ℤ◌, ◌-ℤ◌, neg_ℤ, int_lt, pos, if◌then◌else◌, nat_lt, List, [], ◌∷◌, length, Option, Some, None, slice_get}
+use Rattle.std.specs.Prelude.{◌≡◌, ◌≢◌, ◌≤◌, Bool, false, IsTrue, ℕ, ℤ, ◌+ℤ◌, ◌-ℤ◌, neg_ℤ, int_lt, pos, if◌then◌else◌, nat_lt, List, [], ◌∷◌, length, Option, Some, None, slice_get}
 use Rattle.std.specs.FinMap as fin
 use Rattle.std.specs.Int.{int_div_euclid}
 use Rattle.std.specs.Int.RustNames.{FitsSigned}

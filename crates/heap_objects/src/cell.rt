@@ -95,7 +95,8 @@ impl Cell {
     }
 
     fn push_if_held(&self, names: &mut Vec<Sym>, name: Sym) -> Result<(), NoMemory>
-        ensures { OnOk result (names.new.items ≡ names.old.items ++ (if is_some (spec_state.symbol_in self.now name) then name ∷ [] else [])) }
+        ensures { OnOk result (names.new.items
+            ≡ names.old.items ++ (if is_some (spec_state.symbol_in self.now name) then name ∷ [] else [])) }
     {
         if self.symbol(name).is_some() {
             names.push(name)?;

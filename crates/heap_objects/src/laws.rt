@@ -39,7 +39,8 @@ pub fn writes_law()
 /// A tuple that is made of parts with their true nesting has its true nesting beside its parts. The nesting of a value is the
 /// depth of its tree, and its key is that of its tree.
 pub fn values_law()
-    ensures nesting { (parts : List Value) → map kept_nesting parts ≡ map nesting parts → kept_nesting (tuple_of parts) ≡ nesting (tuple_of parts) }
+    ensures nesting { (parts : List Value) → map kept_nesting parts ≡ map nesting parts
+        → kept_nesting (tuple_of parts) ≡ nesting (tuple_of parts) }
     ensures depth { (v : Value) → nesting v ≡ depth (tree_of v) }
     ensures key { (v : Value) → key_of v ≡ key_of_tree (tree_of v) }
 {}

@@ -94,7 +94,8 @@ fn log_splice(
     from: usize,
     tail: &Vec<Value>,
 ) -> Result<(), NoMemory>
-    ensures { OnOk result (events.new.items ≡ events.old.items ++ calls.splice_events o from tail.now.items (spec.cell_in (slice_get nodes.now o.0))) }
+    ensures { OnOk result (events.new.items
+        ≡ events.old.items ++ calls.splice_events o from tail.now.items (spec.cell_in (slice_get nodes.now o.0))) }
 {
     match cell_of(nodes, o) {
         Some(cell) => log_splice_in(events, cell, o, from, tail),

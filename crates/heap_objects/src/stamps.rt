@@ -97,7 +97,8 @@ impl Index {
 
     /// Takes a stamp out of those under a number. Takes no memory.
     pub fn unlist(&mut self, number: u64, stamp: u64)
-        ensures { (n t : ℕ) → t ≢ stamp → has_stamp (stamps_at self.old.listed n) t ≡ true → has_stamp (stamps_at self.new.listed n) t ≡ true }
+        ensures { (n t : ℕ) → t ≢ stamp → has_stamp (stamps_at self.old.listed n) t ≡ true
+            → has_stamp (stamps_at self.new.listed n) t ≡ true }
     {
         unlist_at(&mut self.listed, number, stamp);
     }
@@ -109,7 +110,8 @@ fn list_at(
     number: u64,
     stamp: u64,
 ) -> Result<(), NoMemory>
-    ensures ok { OnOk result ((n : ℕ) → stamps_at listed.new n ≡ (if n == number then stamps_at listed.old n ++ stamp ∷ [] else stamps_at listed.old n)) }
+    ensures ok { OnOk result ((n : ℕ) → stamps_at listed.new n
+        ≡ (if n == number then stamps_at listed.old n ++ stamp ∷ [] else stamps_at listed.old n)) }
     ensures err { OnErr result ((n : ℕ) → stamps_at listed.new n ≡ stamps_at listed.old n) }
 {
     if let Some(stamps) = listed.get_mut(&number) {

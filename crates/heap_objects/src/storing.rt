@@ -110,7 +110,8 @@ fn copy_of(value: Option<&Value>) -> Result<Option<Value>, NoMemory>
 
 fn slot(nodes: &[Node], f: ObjRef, i: usize) -> Option<&Value>
     requires { i < length (spec.slots_in (spec.cell_in (slice_get nodes.now f.0))) }
-    ensures { option_copied result ≡ spec.name_in (spec.cell_in (slice_get nodes.now f.0)) (name_at (spec.slots_in (spec.cell_in (slice_get nodes.now f.0))) i) }
+    ensures { option_copied result
+        ≡ spec.name_in (spec.cell_in (slice_get nodes.now f.0)) (name_at (spec.slots_in (spec.cell_in (slice_get nodes.now f.0))) i) }
 {
     match cell_of(nodes, f) {
         Some(cell) => cell.slot(i),
@@ -130,7 +131,8 @@ fn slot_name(nodes: &[Node], f: ObjRef, i: usize) -> Sym
 
 fn set_slot(nodes: &mut Vec<Node>, at: usize, i: usize, v: Option<Value>)
     requires { i < length (spec.slots_in (spec.cell_in (slice_get nodes.old.items at))) }
-    ensures { nodes.new.items ≡ spec.changed (calls.store_name (name_at (spec.slots_in (spec.cell_in (slice_get nodes.old.items at))) i) v) nodes.old.items at }
+    ensures { nodes.new.items
+        ≡ spec.changed (calls.store_name (name_at (spec.slots_in (spec.cell_in (slice_get nodes.old.items at))) i) v) nodes.old.items at }
 {
     match nodes.get_mut(at) {
         Some(node) => node.cell.set_slot(i, v),

@@ -61,7 +61,8 @@ impl Value {
 
     /// The tuple of these parts, and `None` exactly where it would nest over the limit. Takes no memory.
     pub fn tuple(parts: Values) -> Option<Value>
-        ensures { MatchOption result (spec.NestsOver NESTING_LIMIT parts) (λ v. (v ≡ spec.tuple_of parts) × (spec.kept_nesting v ≤ NESTING_LIMIT)) }
+        ensures { MatchOption result (spec.NestsOver NESTING_LIMIT parts)
+            (λ v. (v ≡ spec.tuple_of parts) × (spec.kept_nesting v ≤ NESTING_LIMIT)) }
     {
         let most = deepest(parts.as_slice());
         if most >= NESTING_LIMIT {

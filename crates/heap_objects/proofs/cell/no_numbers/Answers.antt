@@ -1,4 +1,4 @@
-use Rattle.std.proofs.Common.{◌≡◌, [], sym, subst, nat_cmp}
+use Rattle.std.proofs.Common.{sym, subst}
 use Rattle.std.specs.Prelude.{None}
 use Rattle.heap_objects.specs.Names.{AreNumbers}
 use Rattle.heap_objects.proofs.SymbolLaws.{no_names}

@@ -1,4 +1,4 @@
-use Rattle.std.proofs.Common.{rules, ◌≡◌, ◌++◌, ◌∷◌, [], ap, sym, ◌∙◌, arith}
+use Rattle.std.proofs.Common.{sym, ◌∙◌, arith}
 use Rattle.heap_objects.proofs.EventLaws.{entries-step, entries-end}
 use Rattle.heap_objects.proofs.keying.log_entries.Goals as goal
 

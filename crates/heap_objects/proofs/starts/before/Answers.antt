@@ -1,5 +1,4 @@
-use Rattle.std.proofs.Common.{◌≡◌, ℕ, ◌<◌, ◌≤◌, get_or, arith}
-use Rattle.flow_base.specs.declared.numbers.RunNo.{RunNo}
+use Rattle.std.proofs.Common.{arith}
 use Rattle.heap_objects.proofs.StartLaws.{below_middle, above_middle}
 use Rattle.heap_objects.proofs.starts.before.Goals as goal
 

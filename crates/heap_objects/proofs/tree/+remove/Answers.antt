@@ -1,5 +1,5 @@
-use Rattle.std.proofs.Common.{rules, ◌≡◌, ◌+◌, ◌<◌, ◌≤◌, ◌++◌, List, length, ap, sym, ◌∙◌, arith, length-append}
-use Rattle.heap_objects.specs.Rows.{AllBelow, AllFrom, IsTree, rows, size_of, without_stamp}
+use Rattle.std.proofs.Common.{◌≡◌, ◌++◌, List, length, ap, sym, ◌∙◌, arith, length-append}
+use Rattle.heap_objects.specs.Rows.{rows, without_stamp}
 use Rattle.heap_objects.specs.declared.tree.Row.{Row}
 use Rattle.heap_objects.specs.declared.tree.Tree.{Tree}
 use Rattle.heap_objects.proofs.RowLaws.{AllBelow-without_stamp, AllFrom-without_stamp, length-without_stamp, without_stamp-left, without_stamp-right}

@@ -1,7 +1,5 @@
-use Rattle.std.proofs.Common.{◌≡◌, ◌+◌, ◌++◌, ◌∷◌, [], ap, sym, ◌∙◌, Some, None, List, ℕ, arith, refl}
+use Rattle.std.proofs.Common.{◌+◌, ap, sym, ◌∙◌, List, ℕ, arith, refl}
 use Rattle.heap_objects.specs.Entries.{entry_of}
-use Rattle.heap_objects.specs.Hash.{hash_key}
-use Rattle.heap_objects.specs.Rows.{rows}
 use Rattle.heap_objects.specs.Stamps.{has_stamp, stamps_at}
 use Rattle.heap_objects.specs.declared.tree.Entry.{Entry}
 use Rattle.heap_objects.proofs.DictLaws.{is_dict-more, is_dict-pushed}

@@ -1,4 +1,4 @@
-use Rattle.std.proofs.Common.{◌≡◌, ap, sym, ◌∙◌, Some, None, List, ℕ}
+use Rattle.std.proofs.Common.{◌≡◌, ap, sym, ◌∙◌, Some, None, List}
 use Rattle.heap_objects.specs.DictRows.{row_among}
 use Rattle.heap_objects.specs.Entries.{entry_of}
 use Rattle.heap_objects.specs.Hash.{hash_key}

@@ -1,10 +1,10 @@
-use Rattle.std.proofs.Common.{◌≡◌, ◌++◌, ◌∷◌, [], cond, Bool, ap, sym, ◌∙◌, Some, None, List, ℕ, OnOk}
+use Rattle.std.proofs.Common.{◌≡◌, ◌++◌, ◌∷◌, [], cond, ap, sym, ◌∙◌, Some, None, List, ℕ}
 use Rattle.std.specs.Option.{is_some, option_map}
 use Rattle.heap_objects.specs.DictRows.{row_among}
 use Rattle.heap_objects.specs.Entries.{entry_of, with_entry, with_value}
 use Rattle.heap_objects.specs.Hash.{hash_key}
 use Rattle.heap_objects.specs.Rows.{rows}
-use Rattle.heap_objects.specs.Stamps.{has_stamp, stamps_at}
+use Rattle.heap_objects.specs.Stamps.{stamps_at}
 use Rattle.heap_objects.specs.declared.tree.Entry.{Entry}
 use Rattle.heap_objects.specs.declared.tree.Row.{Row}
 use Rattle.heap_objects.proofs.DictLaws.{absent_entry, is_dict-set, sets_value}

@@ -4,7 +4,7 @@ use Rattle.heap_objects.specs.DictRows.{row_among}
 use Rattle.heap_objects.specs.Entries.{without}
 use Rattle.heap_objects.specs.Hash.{hash_key}
 use Rattle.heap_objects.specs.Rows.{rows}
-use Rattle.heap_objects.specs.Stamps.{has_stamp, stamps_at}
+use Rattle.heap_objects.specs.Stamps.{stamps_at}
 use Rattle.heap_objects.specs.declared.tree.Entry.{Entry}
 use Rattle.heap_objects.specs.declared.tree.Row.{Row}
 use Rattle.heap_objects.proofs.DictLaws.{is_dict-removed, removes_entry, removes_nothing}

@@ -1,4 +1,4 @@
-use Rattle.std.proofs.Common.{◌≡◌, ap, ◌∙◌, sym, nat_cmp, List, ℕ, subst}
+use Rattle.std.proofs.Common.{ap, ◌∙◌, sym, nat_cmp}
 use Rattle.std.specs.BTreeMap.{get}
 use Rattle.std.specs.FinMap as map
 use Rattle.std.specs.List.{list_any}

@@ -1,4 +1,4 @@
-use Rattle.std.proofs.Common.{◌≡◌, ap, sym, ◌∙◌, Some, None}
+use Rattle.std.proofs.Common.{ap, sym, ◌∙◌}
 use Rattle.heap_objects.specs.Names.{with_name}
 use Rattle.heap_objects.proofs.NameLaws.{inserted, removed}
 use Rattle.heap_objects.proofs.named.Named.set.Goals as goal

@@ -1,4 +1,4 @@
-use Rattle.std.proofs.Common.{◌≡◌, ap, sym, ◌∙◌, arith, List, ℕ}
+use Rattle.std.proofs.Common.{ap, ◌∙◌, arith}
 use Rattle.heap_objects.specs.Names.{holding}
 use Rattle.heap_objects.specs.State.{symbol_in}
 use Rattle.heap_objects.proofs.SymbolLaws.{holding-end, holding-step, symbols_are}

@@ -1,5 +1,4 @@
-use Rattle.std.proofs.Common.{rules, ◌≡◌, ap, sym, ◌∙◌, arith}
-use Rattle.heap_objects.specs.Names.{slot_value}
+use Rattle.std.proofs.Common.{ap, sym, ◌∙◌, arith}
 use Rattle.heap_objects.proofs.SlotLaws.{index_found, index_none}
 use Rattle.heap_objects.proofs.slots.Slots.get.Goals as goal
 

@@ -1,4 +1,4 @@
-use Rattle.std.proofs.Common.{◌≡◌, ◌<◌, length, ap, ◌∙◌, sym, arith}
+use Rattle.std.proofs.Common.{◌<◌, length, ap, ◌∙◌, sym}
 use Rattle.heap_objects.specs.Names.{SlotList}
 use Rattle.heap_objects.proofs.SlotLaws.{name_at-slot}
 use Rattle.heap_objects.proofs.slots.Slots.name.Goals as goal

@@ -1,11 +1,11 @@
-use Rattle.std.proofs.Common.{rules, ◌≡◌, ◌≢◌, ◌<◌, ℕ, ◌+◌, ◌∷◌, ◌++◌, [], List, length, take, get_or, ap, sym, subst, ◌∙◌, arith, length-take, min, None}
+use Rattle.std.proofs.Common.{◌≡◌, ◌≢◌, ◌<◌, ℕ, ◌+◌, ◌∷◌, ◌++◌, [], List, length, take, get_or, ap, sym, subst, ◌∙◌, arith, length-take, None}
 use Rattle.std.proofs.lemmas.Grind.{common_steps}
 use Rattle.std.proofs.lemmas.List.{get_or-take, get_or_default}
 use Rattle.std.proofs.Math.Seq.{take-suc}
 use Rattle.std.specs.Prelude.{AllPairs}
 use Rattle.std.proofs.lemmas.List.{take_all}
 use Rattle.flow_base.specs.declared.numbers.Sym.{Sym}
-use Rattle.heap_objects.specs.Names.{SlotList, new_slots, slot_names}
+use Rattle.heap_objects.specs.Names.{new_slots, slot_names}
 use Rattle.heap_objects.specs.Places.{ArePlaces}
 use Rattle.heap_objects.proofs.SlotLaws.{ArePlaces-push, new_slots-push, slot_names-new}
 use Rattle.heap_objects.proofs.slots.Slots.new.Goals as goal

@@ -1,11 +1,9 @@
-use Rattle.std.proofs.Common.{◌≡◌, ap, ◌∙◌, sym, nat_cmp, List, ℕ, subst, true, refl}
+use Rattle.std.proofs.Common.{ap, ◌∙◌, sym, nat_cmp}
 use Rattle.std.specs.BTreeMap.{get}
 use Rattle.std.specs.List.{list_any}
-use Rattle.std.specs.List.Sorted.{IsStrictlySortedBy}
 use Rattle.std.specs.Ordering.{eq_by_cmp}
 use Rattle.std.specs.Option.{is_some}
-use Rattle.flow_base.specs.declared.numbers.Sym.{Sym}
-use Rattle.heap_objects.specs.Names.{AreNumbers, slot_value}
+use Rattle.heap_objects.specs.Names.{slot_value}
 use Rattle.heap_objects.proofs.SlotLaws.{index_has}
 use Rattle.heap_objects.proofs.SymbolLaws.{numbers_are}
 use Rattle.heap_objects.proofs.slots.Slots.numbers.Goals as goal

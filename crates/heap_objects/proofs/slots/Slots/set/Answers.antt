@@ -1,4 +1,4 @@
-use Rattle.std.proofs.Common.{◌≡◌, ◌∙◌, sym, arith}
+use Rattle.std.proofs.Common.{◌∙◌, sym, arith}
 use Rattle.std.specs.Prelude.{Option}
 use Rattle.flow_base.specs.declared.numbers.Sym.{Sym}
 use Rattle.heap_objects.specs.declared.value.Value.{Value}

@@ -1,5 +1,4 @@
-use Rattle.std.proofs.Common.{◌≡◌, ◌<◌, length, ap, ◌∙◌, sym, arith}
-use Rattle.flow_base.specs.declared.numbers.Sym.{Sym}
+use Rattle.std.proofs.Common.{◌<◌, length, ap, ◌∙◌, sym}
 use Rattle.heap_objects.specs.Names.{SlotList, slot_value}
 use Rattle.heap_objects.proofs.SlotLaws.{name_at-slot, slot_value-at}
 use Rattle.heap_objects.proofs.slots.Slots.value.Goals as goal

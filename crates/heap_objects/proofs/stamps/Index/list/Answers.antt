@@ -1,4 +1,4 @@
-use Rattle.std.proofs.Common.{◌≡◌, ap, sym, ◌∙◌}
+use Rattle.std.proofs.Common.{ap, ◌∙◌}
 use Rattle.heap_objects.specs.Stamps.{has_stamp, stamps_at}
 use Rattle.heap_objects.proofs.StampLaws.{either_way, on_ok, listed_still, listed_there}
 use Rattle.heap_objects.proofs.stamps.Index.list.Goals as goal

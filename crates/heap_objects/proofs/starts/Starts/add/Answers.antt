@@ -1,4 +1,4 @@
-use Rattle.std.proofs.Common.{◌≡◌, ◌++◌, ◌∷◌, [], ℕ, ◌<◌, ◌≤◌, ◌-◌, get_or, length, arith, ap, refl, sym, subst, List}
+use Rattle.std.proofs.Common.{◌≡◌, ℕ, ◌<◌, ◌≤◌, ◌-◌, get_or, length, arith, refl, sym, subst, List}
 use Rattle.flow_base.specs.declared.numbers.RunNo.{RunNo}
 use Rattle.heap_objects.specs.Starts.{AreAscending}
 use Rattle.heap_objects.proofs.StartLaws.{ascending_push}

@@ -1,5 +1,4 @@
-use Rattle.std.proofs.Common.{◌≡◌, ◌-◌, ◌+◌, suc, ℕ, ap, sym, ◌∙◌, subst, List, arith, get_or, length, ◌<◌}
-use Rattle.std.proofs.lemmas.List.{get_or_default}
+use Rattle.std.proofs.Common.{◌≡◌, ◌-◌, suc, ℕ, ap, sym, ◌∙◌, subst, List, arith}
 use Rattle.flow_base.specs.declared.numbers.RunNo.{RunNo}
 use Rattle.heap_objects.specs.Starts.{IsBefore}
 use Rattle.heap_objects.specs.State.{origin_from}

@@ -1,4 +1,4 @@
-use Rattle.std.proofs.Common.{◌≡◌, ap, sym, ◌∙◌}
+use Rattle.std.proofs.Common.{ap, sym, ◌∙◌}
 use Rattle.heap_objects.specs.Rows.{row_of, rows}
 use Rattle.heap_objects.specs.declared.tree.Tree.{Tree}
 use Rattle.heap_objects.proofs.RowLaws.{row_of-left, row_of-right}

@@ -1,5 +1,5 @@
-use Rattle.std.proofs.Common.{◌≡◌, ◌+◌, ◌++◌, ◌∷◌, [], List, length, ap, sym, ◌∙◌, arith, rules, length-append}
-use Rattle.heap_objects.specs.Rows.{AllBelow, AllFrom, IsTree, rows, size_of}
+use Rattle.std.proofs.Common.{◌≡◌, ◌++◌, ◌∷◌, [], List, length, ap, ◌∙◌, arith, length-append}
+use Rattle.heap_objects.specs.Rows.{AllFrom, rows}
 use Rattle.heap_objects.specs.declared.tree.Row.{Row}
 use Rattle.heap_objects.specs.declared.tree.Tree.{Tree}
 use Rattle.heap_objects.proofs.RowLaws.{AllBelow-right, AllFrom-append}
