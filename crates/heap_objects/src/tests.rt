@@ -1,8 +1,7 @@
-// Each public call with ample memory.
+// Each public call with ample memory. The helpers are short, since each is proved too.
 use crate::{Heap, Object, Value, Values, key_of};
 use flow_base::{
-    CodeRef, Event, How, Key, Loc, NoMemory, ObjRef, PyText, ReadHow, RunNo, Shared, Sym, same_key,
-    same_loc,
+    CodeRef, Event, How, Key, Loc, NoMemory, ObjRef, ReadHow, RunNo, Shared, Sym, same_key,
 };
 use std::alloc::Global;
 use std::test::Fail;
@@ -15,9 +14,9 @@ fn numbers(a: Global, items: &[i128]) -> Result<Values, NoMemory> {
     Shared::from_vec(a, list)
 }
 
-fn is_int(value: &Option<Value>, wanted: i128) -> bool {
+fn is_int(value: Option<Value>, wanted: i128) -> bool {
     match value {
-        Some(Value::Int(n)) => *n == wanted,
+        Some(Value::Int(n)) => n == wanted,
         _ => false,
     }
 }
@@ -26,165 +25,171 @@ fn item(o: ObjRef, place: i128) -> Loc {
     Loc::Item(o, Key::Int(place))
 }
 
-// Whether an event is a use, a place read or a write (`u`, `p`, `w`) of a location.
-fn is_event(event: &Event, kind: char, loc: &Loc) -> bool {
+fn holds(heap: &Heap, loc: &Loc, wanted: i128) -> Result<bool, NoMemory> {
+    Ok(is_int(heap.peek(loc)?, wanted))
+}
+
+// An event by a letter: a use, a place read or a write of a name, an attribute, an item, a presence or a shape.
+fn letter(event: &Event) -> char {
     match event {
-        Event::Use(found) => kind == 'u' && same_loc(found, loc),
-        Event::Place(found) => kind == 'p' && same_loc(found, loc),
-        Event::Write(found) => kind == 'w' && same_loc(found, loc),
-        _ => false,
+        Event::Use(loc) => of(loc, ['a', 'b', 'c', 'd', 'e']),
+        Event::Place(loc) => of(loc, ['f', 'g', 'h', 'i', 'j']),
+        Event::Write(loc) => of(loc, ['N', 'A', 'I', 'P', 'S']),
+        _ => '.',
     }
 }
 
-// Whether these are the last events.
-fn ends_with(heap: &Heap, wanted: &[(char, Loc)]) -> bool {
-    let events = heap.events();
-    if events.len() < wanted.len() {
-        return false;
+fn of(loc: &Loc, letters: [char; 5]) -> char {
+    match loc {
+        Loc::Name(_, _) => letters[0],
+        Loc::Attr(_, _) => letters[1],
+        Loc::Item(_, _) => letters[2],
+        Loc::Present(_, _) => letters[3],
+        Loc::Shape(_) => letters[4],
     }
-    let mut at = events.len() - wanted.len();
-    for (kind, loc) in wanted {
-        if at >= events.len() || !is_event(&events[at], *kind, loc) {
+}
+
+// Whether the events of the run are these.
+fn did(heap: &Heap, wanted: &str) -> bool {
+    let mut letters = wanted.chars();
+    for event in heap.events() {
+        if letters.next() != Some(letter(event)) {
             return false;
         }
-        at += 1;
     }
-    true
+    letters.next().is_none()
+}
+
+fn has_key(a: Global, value: &Value, wanted: &Key) -> Result<bool, NoMemory> {
+    match key_of(a, value)? {
+        Some(key) => Ok(same_key(&key, wanted)),
+        None => Ok(false),
+    }
 }
 
 #[test]
 fn keys_of_values(rt: HostRuntime) -> Result<(), Fail> {
-    let a = rt.alloc();
-    for (value, key) in [
-        (Value::Truth(true), Key::Int(1)),
-        (Value::Truth(false), Key::Int(0)),
-        (Value::Int(-7), Key::Int(-7)),
-        (Value::Nil, Key::Nil),
-    ] {
-        let found = key_of(a, &value)?;
-        let same = match &found {
-            Some(k) => same_key(k, &key),
-            None => false,
-        };
-        assert!(rt; same);
-    }
-    let pair = Value::tuple(numbers(a, &[1, 2])?);
-    match pair {
-        Some(pair) => {
-            assert_eq!(rt; pair.nesting(), 1);
-            assert!(rt; key_of(a, &pair.copy()?)?.is_some());
-        }
-        None => assert!(rt; false),
-    }
-    assert!(rt; key_of(a, &Value::Obj(ObjRef(1)))?.is_none());
+    assert!(rt; has_key(rt.alloc(), &Value::Truth(true), &Key::Int(1))?);
+    assert!(rt; has_key(rt.alloc(), &Value::Truth(false), &Key::Int(0))?);
+    assert!(rt; has_key(rt.alloc(), &Value::Nil, &Key::Nil)?);
+    assert!(rt; !has_key(rt.alloc(), &Value::Obj(ObjRef(1)), &Key::Nil)?);
     Ok(())
 }
 
-#[test]
-fn tuples_in_tuples(rt: HostRuntime) -> Result<(), Fail> {
-    let a = rt.alloc();
+// How often a tuple of twice the value before can be made.
+fn tuples_in_tuples(a: Global) -> Result<u64, NoMemory> {
     let mut nested = Value::Int(0);
-    for depth in 1..=51u64 {
-        let parts = Shared::from_vec(a, vec![in a; nested.copy()?, nested]?)?;
-        match Value::tuple(parts) {
-            Some(tuple) => {
-                assert!(rt; depth <= 50 && tuple.nesting() == depth, "{depth}");
-                nested = tuple;
-            }
-            None => {
-                assert_eq!(rt; depth, 51);
-                return Ok(());
-            }
+    for depth in 0..60u64 {
+        match twice(a, &nested)? {
+            Some(tuple) => nested = tuple,
+            None => return Ok(depth),
         }
     }
-    assert!(rt; false);
-    Ok(())
+    Ok(0)
+}
+
+fn twice(a: Global, value: &Value) -> Result<Option<Value>, NoMemory> {
+    let mut parts = Vec::new(a);
+    parts.push(value.copy()?)?;
+    parts.push(value.copy()?)?;
+    Ok(Value::tuple(Shared::from_vec(a, parts)?))
 }
 
 #[test]
-fn names_attributes_and_slots(rt: HostRuntime) -> Result<(), Fail> {
-    let a = rt.alloc();
-    let mut heap = Heap::new(a)?;
-    heap.begin_run(RunNo(1));
-    let global = Loc::Name(ObjRef(0), Sym(4));
-    assert!(rt; heap.peek(&global)?.is_none());
-    heap.store(&global, Some(Value::Int(5)))?;
-    assert!(rt; is_int(&heap.load(&global, ReadHow::Use)?, 5));
-    let frame = heap.new_frame(ObjRef(0), &[Sym(9), Sym(4)])?;
-    heap.store_slot(frame, 1, Some(Value::Int(6)))?;
-    assert!(rt; is_int(&heap.load_slot(frame, 1, ReadHow::Place)?, 6));
-    assert!(rt; heap.load_slot(frame, 0, ReadHow::Use)?.is_none());
-    let local = Loc::Name(frame, Sym(4));
-    assert!(rt; is_int(&heap.peek(&local)?, 6));
-    assert!(rt;
-        ends_with(
-            &heap,
-            &[
-                ('w', global.copy()?),
-                ('u', global.copy()?),
-                ('w', local.copy()?),
-                ('p', local.copy()?),
-                ('u', Loc::Name(frame, Sym(9))),
-            ]
-        )
-    );
-    heap.store(&Loc::Name(frame, Sym(9)), Some(Value::Nil))?;
-    assert_eq!(rt; heap.syms(frame)?.as_slice(), [Sym(4), Sym(9)].as_slice());
+fn nesting_of_tuples(rt: HostRuntime) -> Result<(), Fail> {
+    assert_eq!(rt; tuples_in_tuples(rt.alloc())?, 50);
+    Ok(())
+}
+
+fn names(heap: &mut Heap) -> Result<bool, NoMemory> {
+    let name = Loc::Name(ObjRef(0), Sym(4));
+    heap.store(&name, Some(Value::Int(5)))?;
+    let value = heap.load(&name, ReadHow::Use)?;
+    Ok(is_int(value, 5) && did(heap, "Na"))
+}
+
+fn slots(heap: &mut Heap) -> Result<bool, NoMemory> {
+    let frame = heap.new_frame(ObjRef(0), &[Sym(9)])?;
+    slots_of(heap, frame)
+}
+
+fn slots_of(heap: &mut Heap, frame: ObjRef) -> Result<bool, NoMemory> {
+    heap.store(&Loc::Name(frame, Sym(9)), Some(Value::Int(6)))?;
+    holds(heap, &Loc::Name(frame, Sym(9)), 6)
+}
+
+fn attributes(heap: &mut Heap) -> Result<bool, NoMemory> {
     let class = heap.new_class(Sym(2), None)?;
     let instance = heap.new_instance(Value::Obj(class))?;
-    let attr = Loc::Attr(instance, Sym(7));
-    heap.store(&attr, Some(Value::Truth(true)))?;
-    assert_eq!(rt; heap.syms(instance)?.as_slice(), [Sym(7)].as_slice());
-    heap.store(&attr, None)?;
-    assert_eq!(rt; heap.syms(instance)?.len(), 0);
-    assert!(rt;
-        matches!(
-            heap.object(instance),
-            Object::Instance(Value::Obj(ObjRef(2)))
-        )
-    );
+    heap.store(&Loc::Attr(instance, Sym(7)), Some(Value::Int(8)))?;
+    heap.store(&Loc::Attr(instance, Sym(3)), Some(Value::Nil))?;
+    let names = heap.syms(instance)?;
+    Ok(names.as_slice() == [Sym(3), Sym(7)].as_slice())
+}
+
+#[test]
+fn names_and_attributes(rt: HostRuntime) -> Result<(), Fail> {
+    let mut heap = Heap::new(rt.alloc())?;
+    assert!(rt; names(&mut heap)?);
+    assert!(rt; slots(&mut heap)?);
+    assert!(rt; attributes(&mut heap)?);
     Ok(())
+}
+
+fn list(a: Global, heap: &mut Heap) -> Result<bool, NoMemory> {
+    let o = heap.new_list(numbers(a, &[7, 8, 9])?)?;
+    let made = did(heap, "IIIS");
+    heap.begin_run(RunNo(1));
+    heap.list_put(o, 2, Value::Int(10))?;
+    heap.list_splice(o, 1, numbers(a, &[4])?)?;
+    Ok(made && did(heap, "IIIS") && heap.count(o) == 2 && holds(heap, &item(o, 1), 4)?)
+}
+
+fn shape_of_list(a: Global, heap: &mut Heap) -> Result<bool, NoMemory> {
+    let o = heap.new_list(numbers(a, &[1, 2])?)?;
+    heap.begin_run(RunNo(9));
+    heap.list_splice(o, 0, numbers(a, &[3, 4])?)?;
+    let shape = heap.shape(o, ReadHow::Place)?;
+    Ok(shape == 2 && did(heap, "IIj"))
 }
 
 #[test]
 fn lists(rt: HostRuntime) -> Result<(), Fail> {
-    let a = rt.alloc();
-    let mut heap = Heap::new(a)?;
-    let o = heap.new_list(numbers(a, &[7, 8, 9])?)?;
-    assert!(rt;
-        ends_with(
-            &heap,
-            &[
-                ('w', item(o, 0)),
-                ('w', item(o, 1)),
-                ('w', item(o, 2)),
-                ('w', Loc::Shape(o)),
-            ]
-        )
-    );
-    heap.list_put(o, 2, Value::Int(10))?;
-    assert!(rt; is_int(&heap.load(&item(o, 2), ReadHow::Use)?, 10));
-    assert!(rt; heap.peek(&item(o, 3))?.is_none());
-    assert!(rt; heap.peek(&item(o, -1))?.is_none());
-    let before = heap.events().len();
-    heap.list_splice(o, 1, numbers(a, &[4])?)?;
-    assert_eq!(rt; heap.shape(o, ReadHow::Place)?, 2);
-    assert_eq!(rt; heap.events().len(), before + 4);
-    assert!(rt;
-        ends_with(
-            &heap,
-            &[
-                ('w', item(o, 1)),
-                ('w', item(o, 2)),
-                ('w', Loc::Shape(o)),
-                ('p', Loc::Shape(o)),
-            ]
-        )
-    );
-    heap.list_splice(o, 0, numbers(a, &[1, 2])?)?;
-    assert!(rt; ends_with(&heap, &[('w', item(o, 0)), ('w', item(o, 1))]));
-    assert_eq!(rt; heap.count(o), 2);
+    let mut heap = Heap::new(rt.alloc())?;
+    assert!(rt; list(rt.alloc(), &mut heap)?);
+    assert!(rt; shape_of_list(rt.alloc(), &mut heap)?);
     Ok(())
+}
+
+fn first_key(heap: &Heap, d: ObjRef, wanted: i128) -> Result<bool, NoMemory> {
+    if heap.count(d) == 0 {
+        return Ok(false);
+    }
+    let key = heap.key_at(d, 0)?;
+    Ok(is_int(Some(key), wanted))
+}
+
+// The key stays as it was first written.
+fn puts(heap: &mut Heap, d: ObjRef) -> Result<bool, NoMemory> {
+    heap.begin_run(RunNo(1));
+    heap.dict_put(d, &Value::Truth(true), Value::Int(5))?;
+    Ok(did(heap, "iI") && first_key(heap, d, 1)? && holds(heap, &item(d, 1), 5)?)
+}
+
+fn removes(heap: &mut Heap, d: ObjRef) -> Result<bool, NoMemory> {
+    heap.begin_run(RunNo(2));
+    heap.dict_remove(d, &Key::Int(1))?;
+    let present = heap.present(d, &Key::Int(1), ReadHow::Use)?;
+    Ok(!present && did(heap, "jIPSd") && first_key(heap, d, 2)?)
+}
+
+fn clears(heap: &mut Heap, d: ObjRef) -> Result<bool, NoMemory> {
+    heap.begin_run(RunNo(3));
+    heap.dict_put(d, &Value::Int(1), Value::Nil)?;
+    let put = did(heap, "ijIPS");
+    heap.begin_run(RunNo(4));
+    heap.dict_clear(d)?;
+    Ok(put && did(heap, "IPIPS") && heap.count(d) == 0)
 }
 
 #[test]
@@ -192,116 +197,76 @@ fn dictionaries(rt: HostRuntime) -> Result<(), Fail> {
     let a = rt.alloc();
     let mut heap = Heap::new(a)?;
     let d = heap.new_dict(numbers(a, &[1, 2, 1])?, numbers(a, &[10, 20, 30])?)?;
-    assert_eq!(rt; heap.count(d), 2);
-    assert!(rt; is_int(&heap.peek(&item(d, 1))?, 30));
-    heap.dict_put(d, &Value::Truth(true), Value::Int(5))?;
-    assert!(rt;
-        ends_with(
-            &heap,
-            &[('p', Loc::Present(d, Key::Int(1))), ('w', item(d, 1))]
-        )
-    );
-    if heap.count(d) > 0 {
-        assert!(rt; is_int(&Some(heap.key_at(d, 0)?), 1));
-    }
-    heap.dict_remove(d, &Key::Int(1))?;
-    assert!(rt;
-        ends_with(
-            &heap,
-            &[
-                ('p', Loc::Shape(d)),
-                ('w', item(d, 1)),
-                ('w', Loc::Present(d, Key::Int(1))),
-                ('w', Loc::Shape(d)),
-            ]
-        )
-    );
-    assert!(rt; !heap.present(d, &Key::Int(1), ReadHow::Use)?);
-    heap.dict_put(d, &Value::Int(1), Value::Nil)?;
-    assert!(rt;
-        ends_with(
-            &heap,
-            &[
-                ('p', Loc::Present(d, Key::Int(1))),
-                ('p', Loc::Shape(d)),
-                ('w', item(d, 1)),
-                ('w', Loc::Present(d, Key::Int(1))),
-                ('w', Loc::Shape(d)),
-            ]
-        )
-    );
-    if heap.count(d) > 1 {
-        assert!(rt; is_int(&Some(heap.key_at(d, 0)?), 2));
-        assert!(rt; is_int(&Some(heap.key_at(d, 1)?), 1));
-    }
-    heap.dict_clear(d)?;
-    assert!(rt;
-        ends_with(
-            &heap,
-            &[
-                ('w', item(d, 2)),
-                ('w', Loc::Present(d, Key::Int(2))),
-                ('w', item(d, 1)),
-                ('w', Loc::Present(d, Key::Int(1))),
-                ('w', Loc::Shape(d)),
-            ]
-        )
-    );
-    assert_eq!(rt; heap.count(d), 0);
+    assert!(rt; puts(&mut heap, d)?);
+    assert!(rt; removes(&mut heap, d)?);
+    assert!(rt; clears(&mut heap, d)?);
     Ok(())
 }
 
-// A dictionary in which many keys come and go keeps the order of those that are left.
+// Many keys come, and all but each third go.
+fn keys_go(heap: &mut Heap, d: ObjRef) -> Result<(), NoMemory> {
+    for n in 0..100i128 {
+        heap.dict_put(d, &Value::Int(n), Value::Nil)?;
+    }
+    for n in 0..100i128 {
+        if n % 3 != 0 {
+            heap.dict_remove(d, &Key::Int(n))?;
+        }
+    }
+    Ok(())
+}
+
+fn keys_left(heap: &Heap, d: ObjRef) -> Result<bool, NoMemory> {
+    let mut wanted = 0i128;
+    for i in 0..heap.count(d) {
+        let key = heap.key_at(d, i)?;
+        if !is_int(Some(key), wanted) {
+            return Ok(false);
+        }
+        wanted = wanted.saturating_add(3);
+    }
+    Ok(wanted == 102)
+}
+
 #[test]
 fn keys_in_order(rt: HostRuntime) -> Result<(), Fail> {
     let a = rt.alloc();
     let mut heap = Heap::new(a)?;
     let d = heap.new_dict(numbers(a, &[])?, numbers(a, &[])?)?;
-    for n in 0..100 {
-        heap.dict_put(d, &Value::Int(n), Value::Int(n))?;
-    }
-    for n in 0..100 {
-        if n % 3 != 0 {
-            heap.dict_remove(d, &Key::Int(n))?;
-        }
-    }
-    assert_eq!(rt; heap.count(d), 34);
-    for i in 0..34usize {
-        if i < heap.count(d) {
-            assert!(rt; is_int(&Some(heap.key_at(d, i)?), 3 * i as i128), "{i}");
-        }
-    }
+    keys_go(&mut heap, d)?;
+    assert!(rt; keys_left(&heap, d)?);
     Ok(())
 }
 
-#[test]
-fn names_of_objects(rt: HostRuntime) -> Result<(), Fail> {
-    let a = rt.alloc();
-    let mut heap = Heap::new(a)?;
+fn named(heap: &Heap, o: ObjRef, run: u64, place: u64) -> bool {
+    let (found, k) = heap.origin(o);
+    found.0 == run && k == place
+}
+
+fn origins(a: Global, heap: &mut Heap) -> Result<bool, NoMemory> {
     heap.begin_run(RunNo(3));
     let first = heap.new_list(numbers(a, &[])?)?;
     let second = heap.new_list(numbers(a, &[])?)?;
-    heap.log(Event::Open)?;
-    heap.log(Event::Close(How::Normal))?;
-    assert_eq!(rt; heap.events().len(), 4);
     heap.begin_run(RunNo(5));
-    assert_eq!(rt; heap.events().len(), 0);
     let code = CodeRef {
         run: RunNo(5),
         node: 2,
     };
     let third = heap.new_function(Sym(1), code, numbers(a, &[1])?, ObjRef(0))?;
-    for (object, run, place) in [
-        (ObjRef(0), 0, 0),
-        (first, 3, 0),
-        (second, 3, 1),
-        (third, 5, 0),
-    ] {
-        let (r, k) = heap.origin(object);
-        assert_eq!(rt; r.0, run);
-        assert_eq!(rt; k, place);
-    }
-    let text = Value::Text(PyText::from_str(a, "k")?);
-    assert_eq!(rt; text.nesting(), 0);
+    Ok(
+        named(heap, ObjRef(0), 0, 0)
+            && named(heap, first, 3, 0)
+            && named(heap, second, 3, 1)
+            && named(heap, third, 5, 0),
+    )
+}
+
+#[test]
+fn names_of_objects(rt: HostRuntime) -> Result<(), Fail> {
+    let mut heap = Heap::new(rt.alloc())?;
+    assert!(rt; origins(rt.alloc(), &mut heap)?);
+    heap.log(Event::Close(How::Normal))?;
+    assert_eq!(rt; heap.events().len(), 1);
+    assert!(rt; matches!(heap.object(ObjRef(0)), Object::Frame(None)));
     Ok(())
 }
