@@ -1,0 +1,14 @@
+pub mod CellLaws
+pub mod ChangeLaws
+pub mod DictLaws
+pub mod EntryLaws
+pub mod EventLaws
+pub mod NameLaws
+pub mod RowLaws
+pub mod SlotLaws
+pub mod SoundLaws
+pub mod StampLaws
+pub mod StartLaws
+pub mod SymbolLaws
+pub mod ValueLaws
+pub mod WriteLaws

@@ -1,0 +1,17 @@
+pub mod Calls
+pub mod Changes
+pub mod DictRows
+pub mod Entries
+pub mod Hash
+pub mod Keyed
+pub mod Names
+pub mod Nesting
+pub mod Places
+pub mod Rows
+pub mod Stamps
+pub mod Starts
+pub mod State
+pub mod StateCode
+pub mod Storable
+pub mod Tree
+pub mod WellFormed
