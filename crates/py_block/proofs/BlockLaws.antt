@@ -88,10 +88,13 @@ module _ (text : List ℕ) (tokens : List Token) where
   end_answer : (lines : List LogicalLine) (xs : List Placed) (s : State) → AreSpelled text tokens lines xs → run start xs ≡ Some s → (o : Option Block) → accepted s ≡ o
       → IsAnswer lines (ended (last_number lines) o)
   end_answer lines xs s sp e (Some b) a = (xs, sp, accepted_stands xs s b e a)
-  end_answer lines xs s sp e None a = (too_early (xs, sp, run_begins xs s e) (λ ys b u st.
-      let same : run start ys ≡ Some s = ap (run start) (sym (one_spelling sp u)) ∙ e in
-      let all : Some b ≡ None = sym (stands_accepted ys b st) ∙ ap (λ z. z >>= accepted) same ∙ a in
-      cc), refl)
+  end_answer lines xs s sp e None a = (
+    too_early (xs, sp, run_begins xs s e) (λ ys b u st.
+        let same : run start ys ≡ Some s = ap (run start) (sym (one_spelling sp u)) ∙ e in
+        let all : Some b ≡ None = sym (stands_accepted ys b st) ∙ ap (λ z. z >>= accepted) same ∙ a in
+        cc),
+    refl,
+  )
 
   -- a line that may not stand there
   misplaced : (before : List LogicalLine) (line : LogicalLine) (after : List LogicalLine) (xs : List Placed) (s : State) → AreSpelled text tokens before xs
@@ -101,7 +104,7 @@ module _ (text : List ℕ) (tokens : List Token) where
       let l = spelled_last before line b.0 b.1 in
       let r = begins_run b.0 b.2 in
       let same : run start (xs ++ placed line l.x ∷ []) ≡ Some r.0 =
-        ap (λ z. run start (z ++ placed line l.x ∷ [])) (one_spelling sp l.before) ∙ ap (run start) (sym l.is) ∙ r.1 in
+      ap (λ z. run start (z ++ placed line l.x ∷ [])) (one_spelling sp l.before) ∙ ap (run start) (sym l.is) ∙ r.1 in
       let stepped : step s (placed line l.x) ≡ Some r.0 = sym (ap (λ z. z >>= λ n. step n (placed line l.x)) e) ∙ sym (run_more start xs (placed line l.x)) ∙ same in
       let none = h l.x l.spelled in
       cc)
@@ -165,8 +168,11 @@ module _ (text : List ℕ) (tokens : List Token) where
   stuck_told before line after xs n sp e h none None m = refl
   stuck_told before line after xs n sp e h none (Some next) m =
       let x = next_some_of (form text tokens line) refl m in
-      absurd (none (xs ++ placed line x.0 ∷ [], spelled_more line sp x.1,
-      run_begins (xs ++ placed line x.0 ∷ []) next (run_more start xs (placed line x.0) ∙ ap (λ z. z >>= λ n. step n (placed line x.0)) e ∙ x.2)))
+      absurd (none (
+        xs ++ placed line x.0 ∷ [],
+        spelled_more line sp x.1,
+        run_begins (xs ++ placed line x.0 ∷ []) next (run_more start xs (placed line x.0) ∙ ap (λ z. z >>= λ n. step n (placed line x.0)) e ∙ x.2),
+      ))
     where
       next_some_of : (f : Form) → form text tokens line ≡ f → next_in n line.depth f ≡ Some next → (x : Line) × Spelled text tokens line x × (step n (placed line x) ≡ Some next)
       next_some_of (a_line x) e m = (x, line_form text tokens line h x e, m)

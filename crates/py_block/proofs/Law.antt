@@ -60,9 +60,11 @@ always_followed p (waits w) = waited p w
 
 level : (p : Place) (done : List Statement) (last : Last) → (lines : List Placed) × (b : Block) × Level p done last lines b
 level p done last =
-    let f = always_followed p last in
-    (f.0, put done (put f.1 empty),
-    record { those = f.0; these = []; latest = f.1; rest = empty; splits = sym (append-nil f.0); follows = f.2; stands = g.nothing; is = refl })
+    let f = always_followed p last in (
+      f.0,
+      put done (put f.1 empty),
+      record { those = f.0; these = []; latest = f.1; rest = empty; splits = sym (append-nil f.0); follows = f.2; stands = g.nothing; is = refl },
+    )
 
 stack : (os : List Outer) (p : Place) (done : List Statement) (last : Last) → (lines : List Placed) × (b : Block) × Stack os p done last lines b
 stack [] p done last = level p done last

@@ -84,10 +84,11 @@ module _ (text : List ℕ) (tokens : List Token) where
   lines_lawful : {lines : List LogicalLine} {xs : List Placed} → AreSpelled text tokens lines xs → HoldsOfNone (IsOver text tokens) lines → AreLines xs
   unfolding AreLines
   lines_lawful c.none h = tt
-  lines_lawful (c.and {line} {x = x} s r) h =
-      (line_lawful s (are_natural (with_line_ends text) (tokens_of tokens line)) (not_more (line_depth x) (λ d. h.0 (expression s d))),
-      shallow_line line.depth x (not_more (counted line.depth x) (λ d. h.0 (counts_deep s d))),
-      lines_lawful r h.1)
+  lines_lawful (c.and {line} {x = x} s r) h = (
+    line_lawful s (are_natural (with_line_ends text) (tokens_of tokens line)) (not_more (line_depth x) (λ d. h.0 (expression s d))),
+    shallow_line line.depth x (not_more (counted line.depth x) (λ d. h.0 (counts_deep s d))),
+    lines_lawful r h.1,
+  )
 
 pub cell_lawful : (text : List ℕ) (b : Block) → SpellsText text b → IsBlock top b
 cell_lawful text b s = stands_lawful s.stands (lines_lawful text s.cut.tokens s.spelled s.plain.within)

@@ -105,7 +105,7 @@ module _ {p : Place} {xs : List Statement} {lines : List Placed} {b : Block} whe
         otherwise = otherwise;
         finally = finally;
         excepts = g.a_last suite e;
-        is = ap (λ z. s.try body z otherwise finally ∷ []) (sym (clauses_alone (hs ++ (class, x, b) ∷ [])) ∙ one_clause_more hs (class, x, b) no_handlers)
+        is = ap (λ z. s.try body z otherwise finally ∷ []) (sym (clauses_alone (hs ++ (class, x, b) ∷ [])) ∙ one_clause_more hs (class, x, b) no_handlers);
       }
 
   an_except : (body : Block) (hs : List Clause) (class : Option Tree) (x : Option (List ℕ)) {more : List Placed} {ys : List Statement}
@@ -117,7 +117,7 @@ module _ {p : Place} {xs : List Statement} {lines : List Placed} {b : Block} whe
         otherwise = otherwise;
         finally = finally;
         excepts = g.an_earlier suite e;
-        is = ap (λ z. s.try body z otherwise finally ∷ []) (one_clause_more hs (Some class, x, b) handlers)
+        is = ap (λ z. s.try body z otherwise finally ∷ []) (one_clause_more hs (Some class, x, b) handlers);
       }
   an_except body hs (Some class) x suite (of_except {otherwise} {finally} e) = last_except body hs (Some class) x otherwise finally suite e
   an_except body hs None x suite (of_except {otherwise} {finally} e) = last_except body hs None x otherwise finally suite e
@@ -241,13 +241,13 @@ beside_split : (p : Place) (w : Waiting) (xs : List Statement) (n : Last) (lines
 beside_split p w [] n lines ys e f = waited (subst (λ z. Follows p z lines ys) (sym (some_is e)) f)
 beside_split p w (x ∷ xs) n lines ys e f =
     elim (if_ok (list_all (is_allowed (place_of p w)) (x ∷ xs)) (Some (filled w (block_of (x ∷ xs)))) None n e) [
-      inl t ↦ record {
+      | inl t ↦ record {
         those = [];
         these = lines;
         b = block_of (x ∷ xs);
         splits = refl;
         suite = subst (Suite (place_of p w) (x ∷ xs) []) (put_empty (x ∷ xs)) (g.beside (are_allowed (place_of p w) (x ∷ xs) t.0));
-        follows = subst (λ z. Follows p z lines ys) (sym (some_is t.1)) f
+        follows = subst (λ z. Follows p z lines ys) (sym (some_is t.1)) f;
       }
       | inr t ↦ cc
     ]
@@ -275,16 +275,16 @@ module _ (p : Place) (done : List Statement) (last : Last) (lines : List Placed)
         splits = refl;
         follows = f.1;
         stands = g.simples (are_allowed p (x ∷ xs) a) q.1;
-        is = q.2 ∙ put_append d (x ∷ xs) q.0 ∙ ap (λ z. put z (then x (put xs q.0))) f.2 ∙ put_append done f.0 (then x (put xs q.0))
+        is = q.2 ∙ put_append d (x ∷ xs) q.0 ∙ ap (λ z. put z (then x (put xs q.0))) f.2 ∙ put_append done f.0 (then x (put xs q.0));
       }
 
   simples_level : (xs : List Statement) (r : Row) → on_simples p done last xs ≡ Some r → Level p r.0 r.1 lines b → Level p done last (of p xs ∷ lines) b
   simples_level [] r e v = cc
   simples_level (x ∷ xs) r e v =
       elim (if_ok (list_all (is_allowed p) (x ∷ xs)) (option_map (λ d. (d ++ x ∷ xs, nothing)) (settled done last)) None r e) [
-        inl t ↦
-          let k = option_map_ok (λ d. (d ++ x ∷ xs, nothing)) (settled done last) r t.1 in
-          simples_then x xs k.0 t.0 k.1 (subst (λ z. Level p z.0 z.1 lines b) (sym k.2) v)
+        | inl t ↦
+            let k = option_map_ok (λ d. (d ++ x ∷ xs, nothing)) (settled done last) r t.1 in
+            simples_then x xs k.0 t.0 k.1 (subst (λ z. Level p z.0 z.1 lines b) (sym k.2) v)
         | inr t ↦ cc
       ]
 
@@ -301,7 +301,7 @@ module _ (p : Place) (done : List Statement) (last : Last) (lines : List Placed)
         splits = ap (◌∷◌ (head p h xs)) v.splits;
         follows = subst (λ z. Follows p last (head p h xs ∷ z) v.latest) (sym sp.splits) (went_on p r last h w ew sp.suite sp.follows);
         stands = v.stands;
-        is = v.is
+        is = v.is;
       }
 
   starts_level : (h : Header) (xs : List Statement) (w : Waiting) (d : List Statement) (n : Last) → starts h ≡ Some w → settled done last ≡ Some d
@@ -319,21 +319,21 @@ module _ (p : Place) (done : List Statement) (last : Last) (lines : List Placed)
         splits = refl;
         follows = f.1;
         stands = subst (λ z. Stands p (head p h xs ∷ z) (then c.0 v.rest)) (sym (v.splits ∙ ap (λ z. z ++ v.these) sp.splits)) (g.compound c.2 v.stands);
-        is = v.is ∙ ap (λ z. put d (put z v.rest)) c.1 ∙ ap (λ z. put z (then c.0 v.rest)) f.2 ∙ put_append done f.0 (then c.0 v.rest)
+        is = v.is ∙ ap (λ z. put d (put z v.rest)) c.1 ∙ ap (λ z. put z (then c.0 v.rest)) f.2 ∙ put_append done f.0 (then c.0 v.rest);
       }
 
   header_level : (h : Header) (xs : List Statement) (r : Row) → on_header p done last h xs ≡ Some r → Level p r.0 r.1 lines b
       → Level p done last (head p h xs ∷ lines) b
   header_level h xs r e v =
       elim (on_ok (goes_on last h) (new_statement p done last h xs) (λ w. option_map (λ n. (done, n)) (beside p w xs)) (Some r) e) [
-        inr t ↦
-          let k = option_map_ok (λ n. (done, n)) (beside p t.0 xs) r t.2 in
-          goes_level h xs t.0 k.0 t.1 k.1 (subst (λ z. Level p z.0 z.1 lines b) (sym k.2) v)
+        | inr t ↦
+            let k = option_map_ok (λ n. (done, n)) (beside p t.0 xs) r t.2 in
+            goes_level h xs t.0 k.0 t.1 k.1 (subst (λ z. Level p z.0 z.1 lines b) (sym k.2) v)
         | inl t ↦
-          let i = bind_ok (starts h) (λ w. settled done last >>= λ d. option_map (λ n. (d, n)) (beside p w xs)) r t.1 in
-          let j = bind_ok (settled done last) (λ d. option_map (λ n. (d, n)) (beside p i.0 xs)) r i.2 in
-          let k = option_map_ok (λ n. (j.0, n)) (beside p i.0 xs) r j.2 in
-          starts_level h xs i.0 j.0 k.0 i.1 j.1 k.1 (subst (λ z. Level p z.0 z.1 lines b) (sym k.2) v)
+            let i = bind_ok (starts h) (λ w. settled done last >>= λ d. option_map (λ n. (d, n)) (beside p w xs)) r t.1 in
+            let j = bind_ok (settled done last) (λ d. option_map (λ n. (d, n)) (beside p i.0 xs)) r i.2 in
+            let k = option_map_ok (λ n. (j.0, n)) (beside p i.0 xs) r j.2 in
+            starts_level h xs i.0 j.0 k.0 i.1 j.1 k.1 (subst (λ z. Level p z.0 z.1 lines b) (sym k.2) v)
       ]
 
   line_level : (line : Line) (r : Row) → on_line p done last line ≡ Some r → Level p r.0 r.1 lines b
@@ -364,26 +364,26 @@ closed p done last d e =
       splits = refl;
       follows = f.1;
       stands = g.nothing;
-      is = sym (put_empty d) ∙ ap (λ z. put z empty) f.2 ∙ put_append done f.0 empty
+      is = sym (put_empty d) ∙ ap (λ z. put z empty) f.2 ∙ put_append done f.0 empty;
     }
 
 down_means : (os : List Outer) (p : Place) (done : List Statement) (last : Last) (x : Placed) (s : State) (lines : List Placed) (b : Block)
     → down os p done last x ≡ Some s → Means s lines b → Stack os p done last (x ∷ lines) b
 down_means [] p done last x s lines b e v =
     elim (if_ok (x.deep == p.deep) (option_map (with_row [] p) (on_line p done last x.line)) None s e) [
-      inl t ↦
-        let k = option_map_ok (with_row [] p) (on_line p done last x.line) s t.1 in
-        stack_line [] p done last x k.0 lines b (eqb-true x.deep p.deep t.0) k.1 (subst (λ z. Stack z.outers z.place z.done z.last lines b) (sym k.2) v)
+      | inl t ↦
+          let k = option_map_ok (with_row [] p) (on_line p done last x.line) s t.1 in
+          stack_line [] p done last x k.0 lines b (eqb-true x.deep p.deep t.0) k.1 (subst (λ z. Stack z.outers z.place z.done z.last lines b) (sym k.2) v)
       | inr t ↦ cc
     ]
 down_means (o ∷ os) p done last x s lines b e v =
     elim (if_ok (x.deep == p.deep) (option_map (with_row (o ∷ os) p) (on_line p done last x.line)) (settled done last >>= λ d. down os o.place o.done (filled o.waiting (block_of d)) x) s e) [
-      inl t ↦
-        let k = option_map_ok (with_row (o ∷ os) p) (on_line p done last x.line) s t.1 in
-        stack_line (o ∷ os) p done last x k.0 lines b (eqb-true x.deep p.deep t.0) k.1 (subst (λ z. Stack z.outers z.place z.done z.last lines b) (sym k.2) v)
+      | inl t ↦
+          let k = option_map_ok (with_row (o ∷ os) p) (on_line p done last x.line) s t.1 in
+          stack_line (o ∷ os) p done last x k.0 lines b (eqb-true x.deep p.deep t.0) k.1 (subst (λ z. Stack z.outers z.place z.done z.last lines b) (sym k.2) v)
       | inr t ↦
-        let k = bind_ok (settled done last) (λ d. down os o.place o.done (filled o.waiting (block_of d)) x) s t.1 in
-        ([], x ∷ lines, block_of k.0, refl, closed p done last k.0 k.1, down_means os o.place o.done (filled o.waiting (block_of k.0)) x s lines b k.2 v)
+          let k = bind_ok (settled done last) (λ d. down os o.place o.done (filled o.waiting (block_of d)) x) s t.1 in
+          ([], x ∷ lines, block_of k.0, refl, closed p done last k.0 k.1, down_means os o.place o.done (filled o.waiting (block_of k.0)) x s lines b k.2 v)
     ]
 
 some_block : {p : Place} {x : Placed} {lines all : List Placed} {b : Block} → Stands p all b → all ≡ x ∷ lines → (y : Statement) × (more : Block) × (b ≡ then y more)
@@ -403,7 +403,7 @@ waits_level p done w those lines within b suite v =
       splits = ap (λ z. those ++ z) v.splits ∙ sym (append_assoc those v.those v.these);
       follows = of_waits suite v.follows;
       stands = v.stands;
-      is = v.is
+      is = v.is;
     }
 
 waits_stack : (os : List Outer) (p : Place) (done : List Statement) (w : Waiting) (those lines : List Placed) (within b : Block) → Suite (place_of p w) [] those within
@@ -424,11 +424,11 @@ enter_means : (s : State) (w : Waiting) (x : Placed) (n : State) (lines : List P
     → Stack s.outers s.place s.done (waits w) (x ∷ lines) b
 enter_means s w x n lines b e v =
     elim (if_ok (x.deep == (place_of s.place w).deep) (option_map (with_row (record { place = s.place; done = s.done; waiting = w } ∷ s.outers) (place_of s.place w)) (on_line (place_of s.place w) [] nothing x.line)) None n e) [
-      inl t ↦
-        let k = option_map_ok (with_row (record { place = s.place; done = s.done; waiting = w } ∷ s.outers) (place_of s.place w)) (on_line (place_of s.place w) [] nothing x.line) n t.1 in
-        let u = subst (λ z. Stack z.outers z.place z.done z.last lines b) (sym k.2) v in
-        subst (λ z. Stack s.outers s.place s.done (waits w) (x ∷ z) b) (sym u.3)
-        (waits_stack s.outers s.place s.done w (x ∷ u.0) u.1 u.2 b (below (place_of s.place w) x k.0 u.0 u.2 (eqb-true x.deep (place_of s.place w).deep t.0) k.1 u.4) u.5)
+      | inl t ↦
+          let k = option_map_ok (with_row (record { place = s.place; done = s.done; waiting = w } ∷ s.outers) (place_of s.place w)) (on_line (place_of s.place w) [] nothing x.line) n t.1 in
+          let u = subst (λ z. Stack z.outers z.place z.done z.last lines b) (sym k.2) v in
+          subst (λ z. Stack s.outers s.place s.done (waits w) (x ∷ z) b) (sym u.3)
+          (waits_stack s.outers s.place s.done w (x ∷ u.0) u.1 u.2 b (below (place_of s.place w) x k.0 u.0 u.2 (eqb-true x.deep (place_of s.place w).deep t.0) k.1 u.4) u.5)
       | inr t ↦ cc
     ]
 
@@ -447,7 +447,7 @@ waiting_is (after_else body hs otherwise) w e = cc
 pub step_means : (s : State) (x : Placed) (n : State) (lines : List Placed) (b : Block) → step s x ≡ Some n → Means n lines b → Means s (x ∷ lines) b
 step_means s x n lines b e v =
     elim (on_ok (waiting_of s.last) (down s.outers s.place s.done s.last x) (λ w. enter s w x) (Some n) e) [
-      inl t ↦ down_means s.outers s.place s.done s.last x n lines b t.1 v
+      | inl t ↦ down_means s.outers s.place s.done s.last x n lines b t.1 v
       | inr t ↦ subst (λ z. Stack s.outers s.place s.done z (x ∷ lines) b) (sym (waiting_is s.last t.0 t.1)) (enter_means s t.0 x n lines b t.2 v)
     ]
 

@@ -245,10 +245,10 @@ module _ (p : Place) (h : Header) (w : Waiting) (xs : List Statement) (lines : L
         after = next.after;
         ends = next.ends;
         reads = λ os done rest a.
-          ap (λ z. result (at os p done last) (head p h xs ∷ z)) (append_assoc lines more rest)
-          ∙ goes_row os done last (more ++ rest) e (heads_above p more rest next.heads a)
-          ∙ next.reads os done rest a;
-        heads = refl
+            ap (λ z. result (at os p done last) (head p h xs ∷ z)) (append_assoc lines more rest)
+            ∙ goes_row os done last (more ++ rest) e (heads_above p more rest next.heads a)
+            ∙ next.reads os done rest a;
+        heads = refl;
       }
 
   goes_whole : (last : Last) (x : Statement) → goes_on last h ≡ Some w → filled w b ≡ whole x → Goes p last (head p h xs ∷ lines) x
@@ -257,7 +257,7 @@ module _ (p : Place) (h : Header) (w : Waiting) (xs : List Statement) (lines : L
         after = whole x;
         ends = λ d. refl;
         reads = λ os done rest a. goes_row os done last rest e a ∙ ap (λ z. result (at os p done z) rest) f;
-        heads = refl
+        heads = refl;
       }
 
   begins_then : (more : List Placed) (x : Statement) → starts h ≡ Some w → Goes p (filled w b) more x → Begins p (head p h xs ∷ lines ++ more) x
@@ -266,9 +266,9 @@ module _ (p : Place) (h : Header) (w : Waiting) (xs : List Statement) (lines : L
         after = next.after;
         ends = next.ends;
         reads = λ os done last d rest ed a.
-          ap (λ z. result (at os p done last) (head p h xs ∷ z)) (append_assoc lines more rest)
-          ∙ begins_row os done last d (more ++ rest) e ed (heads_above p more rest next.heads a)
-          ∙ next.reads os d rest a
+            ap (λ z. result (at os p done last) (head p h xs ∷ z)) (append_assoc lines more rest)
+            ∙ begins_row os done last d (more ++ rest) e ed (heads_above p more rest next.heads a)
+            ∙ next.reads os d rest a;
       }
 
   begins_whole : (x : Statement) → starts h ≡ Some w → filled w b ≡ whole x → Begins p (head p h xs ∷ lines) x
@@ -276,7 +276,7 @@ module _ (p : Place) (h : Header) (w : Waiting) (xs : List Statement) (lines : L
       record {
         after = whole x;
         ends = λ d. refl;
-        reads = λ os done last d rest ed a. begins_row os done last d rest e ed a ∙ ap (λ z. result (at os p d z) rest) f
+        reads = λ os done last d rest ed a. begins_row os done last d rest e ed a ∙ ap (λ z. result (at os p d z) rest) f;
       }
 
 nothing_goes : (p : Place) (last : Last) (x : Statement) → ((d : List Statement) → settled d last ≡ Some (d ++ x ∷ [])) → Goes p last [] x
@@ -318,8 +318,8 @@ beside_read P p w x xs e a =
     record {
       after = filled w (block_of (x ∷ xs));
       is = ap (λ q. if list_all (is_allowed q) (x ∷ xs) then Some (filled w (block_of (x ∷ xs))) else None) e
-        ∙ ap (λ z. if z then Some (filled w (block_of (x ∷ xs))) else None) a;
-      reads = λ os done rest _. ap (λ z. result (at os p done (filled w z)) rest) (sym (put_empty (x ∷ xs)))
+          ∙ ap (λ z. if z then Some (filled w (block_of (x ∷ xs))) else None) a;
+      reads = λ os done rest _. ap (λ z. result (at os p done (filled w z)) rest) (sym (put_empty (x ∷ xs)));
     }
 
 below_read : (P p : Place) (w : Waiting) (lines : List Placed) (b : Block) → place_of p w ≡ P → First P lines → StandsRead P lines b → SuiteRead p w [] lines b
@@ -328,16 +328,16 @@ below_read P p w lines b e first stands =
       after = waits w;
       is = refl;
       reads = λ os done rest a.
-        let o : Outer = record { place = p; done = done; waiting = w } in
-        let above : Above P.deep rest = subst (λ z. Above z rest) (sym (deeper p w) ∙ ap (λ q. q.deep) e) a in
-        ap (λ z. result (at os p done (waits w)) (z ++ rest)) first.is
-        ∙ ap (λ z. result (at os p done (waits w)) (record { deep = z; line = first.line } ∷ first.rest ++ rest)) (ap (λ q. q.deep) (sym e))
-        ∙ enters os p done w first.line (first.rest ++ rest)
-        ∙ ap (λ q. result (at (o ∷ os) q [] nothing) (record { deep = q.deep; line = first.line } ∷ first.rest ++ rest)) e
-        ∙ ap (λ z. result (at (o ∷ os) P [] nothing) (z ++ rest)) (sym first.is)
-        ∙ stands (o ∷ os) [] nothing [] rest refl above
-        ∙ leaves os p done w P (list_of b) rest above
-        ∙ ap (λ z. result (at os p done (filled w z)) rest) (block_of_list b)
+          let o : Outer = record { place = p; done = done; waiting = w } in
+          let above : Above P.deep rest = subst (λ z. Above z rest) (sym (deeper p w) ∙ ap (λ q. q.deep) e) a in
+          ap (λ z. result (at os p done (waits w)) (z ++ rest)) first.is
+          ∙ ap (λ z. result (at os p done (waits w)) (record { deep = z; line = first.line } ∷ first.rest ++ rest)) (ap (λ q. q.deep) (sym e))
+          ∙ enters os p done w first.line (first.rest ++ rest)
+          ∙ ap (λ q. result (at (o ∷ os) q [] nothing) (record { deep = q.deep; line = first.line } ∷ first.rest ++ rest)) e
+          ∙ ap (λ z. result (at (o ∷ os) P [] nothing) (z ++ rest)) (sym first.is)
+          ∙ stands (o ∷ os) [] nothing [] rest refl above
+          ∙ leaves os p done w P (list_of b) rest above
+          ∙ ap (λ z. result (at os p done (filled w z)) rest) (block_of_list b);
     }
 
 try_goes : (body : Block) (hs : List Clause) (more : Bool) → goes_on (after_except body hs more) l.else ≡ Some (m.try_else body hs)

@@ -250,6 +250,7 @@ pub record IsBody (p : Place) (body : Block) : Type 0 where
 
 mutual
   unfolding AreLines IsLine AreSimple IsSimple IsShallow IsHeader
+
   pub stands_lawful : {p : Place} {lines : List Placed} {body : Block} → Stands p lines body → AreLines lines → IsBlock p body
   stands_lawful b.nothing h = tt
   stands_lawful (b.simples {p} {x} {xs} {lines} {b = rest} e s) h =

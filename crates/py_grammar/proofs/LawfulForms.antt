@@ -73,12 +73,14 @@ mutual
   spelled_form (g.a_dict {xs} r) h = pair_row_forms r (natural_front xs (The m.CloseCurly ∷ []) h)
   spelled_form (g.an_atom s) h = spelled_form s h
   spelled_form (g.attribute {xs} {x = x} s) h = spelled_form s (natural_front xs (The m.Dot ∷ Name x ∷ []) h)
-  spelled_form (g.subscript {xs} {ys} s i) h =
-      (spelled_form s (natural_front xs (The m.OpenSquare ∷ ys ++ The m.CloseSquare ∷ []) h),
-      spelled_form i (natural_front ys (The m.CloseSquare ∷ []) (natural_back xs (The m.OpenSquare ∷ ys ++ The m.CloseSquare ∷ []) h)))
-  spelled_form (g.call {xs} {ys} s r) h =
-      (spelled_form s (natural_front xs (The m.Open ∷ ys ++ The m.Close ∷ []) h),
-      row_forms r (natural_front ys (The m.Close ∷ []) (natural_back xs (The m.Open ∷ ys ++ The m.Close ∷ []) h)))
+  spelled_form (g.subscript {xs} {ys} s i) h = (
+    spelled_form s (natural_front xs (The m.OpenSquare ∷ ys ++ The m.CloseSquare ∷ []) h),
+    spelled_form i (natural_front ys (The m.CloseSquare ∷ []) (natural_back xs (The m.OpenSquare ∷ ys ++ The m.CloseSquare ∷ []) h)),
+  )
+  spelled_form (g.call {xs} {ys} s r) h = (
+    spelled_form s (natural_front xs (The m.Open ∷ ys ++ The m.Close ∷ []) h),
+    row_forms r (natural_front ys (The m.Close ∷ []) (natural_back xs (The m.Open ∷ ys ++ The m.Close ∷ []) h)),
+  )
   spelled_form (g.a_primary s) h = spelled_form s h
   spelled_form (g.power {xs} {ys} s r) h = (spelled_form s (natural_front xs (The m.Stars ∷ ys) h), spelled_form r (natural_back xs (The m.Stars ∷ ys) h))
   spelled_form (g.a_power s) h = spelled_form s h
@@ -130,9 +132,10 @@ mutual
       ((spelled_form k (natural_front xs (The m.Colon ∷ ys) h), (spelled_form v (natural_back xs (The m.Colon ∷ ys) h), tt)), tt)
   pairs_forms (g.and_pair {xs} {ys} {zs} {ts} {k} {v} s a b) h =
       let r = pairs_forms s (natural_front xs (The m.Comma ∷ ys ++ (The m.Colon ∷ zs)) h) in
-      let back = natural_back xs (The m.Comma ∷ ys ++ (The m.Colon ∷ zs)) h in
-      (push_forms (push ts k) v (push_forms ts k r.0 (spelled_form a (natural_front ys (The m.Colon ∷ zs) back))) (spelled_form b (natural_back ys (The m.Colon ∷ zs) back)),
-      push_pair ts k v r.1)
+      let back = natural_back xs (The m.Comma ∷ ys ++ (The m.Colon ∷ zs)) h in (
+        push_forms (push ts k) v (push_forms ts k r.0 (spelled_form a (natural_front ys (The m.Colon ∷ zs) back))) (spelled_form b (natural_back ys (The m.Colon ∷ zs) back)),
+        push_pair ts k v r.1,
+      )
 
   pair_row_forms : {xs : List Sign} {ts : Trees} → PairRow xs ts → AreNatural xs → AreForms ts × AreInPairs ts
   pair_row_forms g.no_pairs h = (tt, tt)

@@ -8,8 +8,8 @@ ghost use Rattle.unicode_normalization.specs.Forms.{nfkc};
 ghost use Rattle.py_signs.specs.Signs.{name_sign, sign_of, text_of_token};
 ghost use Rattle.py_signs.specs.Signed.{IsSign, AreSigns};
 
-use crate::operators::operator_of;
 use crate::keywords::{is_keyword, keyword_of};
+use crate::operators::operator_of;
 use flow_base::{NoMemory, PyText};
 use py_grammar::Sign;
 use py_lexer::{Token, TokenKind};
@@ -58,11 +58,7 @@ impl<T: Drop> From<AllocFailed<T>> for SignFault {
 }
 
 /// The signs of tokens, one for each; `Wide` exactly where a number is over i128.
-pub fn read_signs(
-    alloc: Global,
-    text: &PyText,
-    tokens: &[Token],
-) -> Result<Vec<Sign>, SignFault>
+pub fn read_signs(alloc: Global, text: &PyText, tokens: &[Token]) -> Result<Vec<Sign>, SignFault>
     requires { AreSpans text.now 0 tokens.now }
     ensures { AreSigns text.now tokens.now result }
 {

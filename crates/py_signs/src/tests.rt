@@ -63,17 +63,41 @@ fn signs(rt: HostRuntime) -> Result<(), Fail> {
         ("x = 1", "name x|Equals|number 1|"),
         ("None True False not", "None|True|False|Not|"),
         ("if elif else while for in", "If|Elif|Else|While|For|In|"),
-        ("try except finally as def class", "Try|Except|Finally|As|Def|Class|"),
-        ("pass break continue return raise", "Pass|Break|Continue|Return|Raise|"),
-        ("global nonlocal del assert lambda", "Global|Nonlocal|Del|Assert|Lambda|"),
+        (
+            "try except finally as def class",
+            "Try|Except|Finally|As|Def|Class|",
+        ),
+        (
+            "pass break continue return raise",
+            "Pass|Break|Continue|Return|Raise|",
+        ),
+        (
+            "global nonlocal del assert lambda",
+            "Global|Nonlocal|Del|Assert|Lambda|",
+        ),
         ("and or is", "And|Or|Is|"),
-        ("iff Is none _ is_", "name iff|name Is|name none|name _|name is_|"),
+        (
+            "iff Is none _ is_",
+            "name iff|name Is|name none|name _|name is_|",
+        ),
         ("+ - * // % **", "Plus|Minus|Star|Slashes|Percent|Stars|"),
-        ("< > <= >= == !=", "Less|Greater|AtMost|AtLeast|Same|Differs|"),
-        ("( ) [ ] { }", "Open|Close|OpenSquare|CloseSquare|OpenCurly|CloseCurly|"),
+        (
+            "< > <= >= == !=",
+            "Less|Greater|AtMost|AtLeast|Same|Differs|",
+        ),
+        (
+            "( ) [ ] { }",
+            "Open|Close|OpenSquare|CloseSquare|OpenCurly|CloseCurly|",
+        ),
         (", : ; . =", "Comma|Colon|Semicolon|Dot|Equals|"),
-        ("+= -= *= //= %= **=", "PlusEquals|MinusEquals|StarEquals|SlashesEquals|PercentEquals|StarsEquals|"),
-        ("0x_ff 0b1 0o17 1_000 00", "number 255|number 1|number 15|number 1000|number 0|"),
+        (
+            "+= -= *= //= %= **=",
+            "PlusEquals|MinusEquals|StarEquals|SlashesEquals|PercentEquals|StarsEquals|",
+        ),
+        (
+            "0x_ff 0b1 0o17 1_000 00",
+            "number 255|number 1|number 15|number 1000|number 0|",
+        ),
         ("'a\\n' \"b\" ''", "text a\n|text b|text |"),
         ("a\nb", "name a|?|name b|"),
         // a name is its NFKC form, and one whose form is a keyword stands in no line
@@ -83,11 +107,17 @@ fn signs(rt: HostRuntime) -> Result<(), Fail> {
         ("import x", "unsupported"),
         ("x = 1.5", "unsupported"),
         ("x @ y", "unsupported"),
-        ("170141183460469231731687303715884105727", "number 170141183460469231731687303715884105727|"),
+        (
+            "170141183460469231731687303715884105727",
+            "number 170141183460469231731687303715884105727|",
+        ),
         ("170141183460469231731687303715884105728", "wide"),
         ("0x80000000000000000000000000000000", "wide"),
         // an unsupported token comes before a number that is too wide, and brackets too
-        ("170141183460469231731687303715884105728 import", "unsupported"),
+        (
+            "170141183460469231731687303715884105728 import",
+            "unsupported",
+        ),
     ] {
         assert!(rt; signs_of(rt.alloc(), text)?.as_str() == want, "{text}");
     }

@@ -14,7 +14,7 @@ pub returns-in-len3 : goal.returns-in-len3
 returns-in-len3 c =
     c.of_three.ensures
     ∙ operator_of_three c.args.text.now c.a-item-then-text-lt4.result c.b-item-then-text-lt4.result c.c-item.result
-      c.in-len3.len_at_least c.in-len3.len_below c.a-item-then-text-lt4.is c.b-item-then-text-lt4.is c.c-item.is
+    c.in-len3.len_at_least c.in-len3.len_below c.a-item-then-text-lt4.is c.b-item-then-text-lt4.is c.c-item.is
 
 pub returns-in_default : goal.returns-in_default
 returns-in_default c = sym (no_operator c.args.text.now (omega arith) (omega arith) (omega arith))

@@ -12,4 +12,4 @@ pub returns : goal.returns
 returns c =
     ap Name c.in_ok-part.ensures
     ∙ ascii_sign _ (rw c.as_slice.ensures at (c.is_ascii.ensures.0 c.if-not-is_ascii.false))
-      (sym (rw c.as_slice.ensures at c.is_keyword.ensures) ∙ c.if-is_keyword.false)
+    (sym (rw c.as_slice.ensures at c.is_keyword.ensures) ∙ c.if-is_keyword.false)
