@@ -35,7 +35,7 @@ held-cond : (b : Bool) (v w : Option Value) → held (cond b v w) ≡ cond b (he
 held-cond true v w = refl
 held-cond false v w = refl
 
-name_value : (names : Names) (n m : Sym) (v : Option Value) → fin.get (with_name names n v) m.0 ≡ cond (n.0 == m.0) v (fin.get names m.0)
+pub name_value : (names : Names) (n m : Sym) (v : Option Value) → fin.get (with_name names n v) m.0 ≡ cond (n.0 == m.0) v (fin.get names m.0)
 name_value names n m (Some v) = fin.get-insert nat_cmp_total names n.0 v m.0 ∙ ap (λ (b : Bool). cond b (Some v) (fin.get names m.0)) (is_at-eqb m.0 n.0 ∙ flip_eqb m.0 n.0)
 name_value names n m None = fin.get-remove nat_cmp_total names n.0 m.0 ∙ ap (λ (b : Bool). cond b None (fin.get names m.0)) (is_at-eqb m.0 n.0 ∙ flip_eqb m.0 n.0)
 
@@ -130,7 +130,7 @@ item_at items i v k false e lt =
     other_item items i v (out-Key k)
     (λ same. true≢false (sym (true_same_key (roll-Key (key.Int (pos i))) k (ap roll-Key (sym same) ∙ roll-out-Key k)) ∙ e))
 
-own_key : (o f : ObjRef) (j k : Key) (x y : Content) → o ≡ f → cond (key_eq j k) x y ≡ cond ((o.0 == f.0) && key_eq j k) x y
+pub own_key : (o f : ObjRef) (j k : Key) (x y : Content) → o ≡ f → cond (key_eq j k) x y ≡ cond ((o.0 == f.0) && key_eq j k) x y
 own_key o f j k x y e = ap (λ (b : Bool). cond (b && key_eq j k) x y) (sym (eq-eqb o.0 f.0 (ap (λ (p : ObjRef). p.0) e)))
 
 pub put_law : (items : List Value) (o : ObjRef) (i : ℕ) (v : Value) (l : Loc) → i < length items → o ≡ object_of l
@@ -157,7 +157,7 @@ gone_cond : (b : Bool) (o : Option Entry) → present_if (is_some (cond b None o
 gone_cond true o = refl
 gone_cond false o = refl
 
-own_shape : (o f : ObjRef) (x y : Content) → o ≡ f → x ≡ cond (o.0 == f.0) x y
+pub own_shape : (o f : ObjRef) (x y : Content) → o ≡ f → x ≡ cond (o.0 == f.0) x y
 own_shape o f x y e = sym (ap (λ (b : Bool). cond b x y) (eq-eqb o.0 f.0 (ap (λ (p : ObjRef). p.0) e)))
 
 put_present : (es : List Entry) (o : ObjRef) (k : Key) (v : Value) (l : Loc) → has_key es k ≡ true → o ≡ object_of l

@@ -14,14 +14,14 @@ use Rattle.heap_objects.specs.declared.object.Cell.TheVariants as cell
 use Rattle.heap_objects.specs.declared.object.Content.{Content}
 use Rattle.heap_objects.specs.declared.object.Node.{Node}
 
-changed_head : (f : Cell → Cell) (n : Node) (ns : List Node) (i : ℕ) (o : Option Node) → changed_at f (n ∷ ns) (suc i) o ≡ n ∷ changed_at f ns i o
+pub changed_head : (f : Cell → Cell) (n : Node) (ns : List Node) (i : ℕ) (o : Option Node) → changed_at f (n ∷ ns) (suc i) o ≡ n ∷ changed_at f ns i o
 changed_head f n ns i None = refl
 changed_head f n ns i (Some m) = refl
 
-zero_suc : (j : ℕ) → 0 ≡ suc j → ⊥
+pub zero_suc : (j : ℕ) → 0 ≡ suc j → ⊥
 zero_suc j e = let no : ⊥ = omega (arith, e) in no
 
-suc_eqb : (i j : ℕ) → (suc i == suc j) ≡ (i == j)
+pub suc_eqb : (i j : ℕ) → (suc i == suc j) ≡ (i == j)
 suc_eqb i j = go (suc i == suc j) (i == j) refl refl
   where
     go : (a b : Bool) → (suc i == suc j) ≡ a → (i == j) ≡ b → a ≡ b
@@ -72,7 +72,7 @@ abbrev pub AreOf : ObjRef → List (Loc × Content) → Type 0
 AreOf o [] = Unit {0}
 AreOf o (w ∷ ws) = (object_of w.0 ≡ o) × AreOf o ws
 
-after_other : (o : ObjRef) (ws : List (Loc × Content)) (c d : Loc → Content) (l : Loc) → AreOf o ws → o ≢ object_of l → c l ≡ d l → after ws c l ≡ d l
+pub after_other : (o : ObjRef) (ws : List (Loc × Content)) (c d : Loc → Content) (l : Loc) → AreOf o ws → o ≢ object_of l → c l ≡ d l → after ws c l ≡ d l
 after_other o [] c d l of other e = e
 after_other o (w ∷ ws) c d l of other e = after_other o ws (λ k. cond (loc_eq w.0 k) w.1 (c k)) d l of.1 other (go (loc_eq w.0 l) refl)
   where
@@ -80,7 +80,7 @@ after_other o (w ∷ ws) c d l of other e = after_other o ws (λ k. cond (loc_eq
     go true t = absurd (other (sym of.0 ∙ same_object w.0 l t))
     go false t = e
 
-after_same : (ws : List (Loc × Content)) (c d : Loc → Content) (l : Loc) → c l ≡ d l → after ws c l ≡ after ws d l
+pub after_same : (ws : List (Loc × Content)) (c d : Loc → Content) (l : Loc) → c l ≡ d l → after ws c l ≡ after ws d l
 after_same [] c d l e = e
 after_same (w ∷ ws) c d l e = after_same ws (λ k. cond (loc_eq w.0 k) w.1 (c k)) (λ k. cond (loc_eq w.0 k) w.1 (d k)) l (ap (λ x. cond (loc_eq w.0 l) w.1 x) e)
 

@@ -92,7 +92,7 @@ push_some e es n k true rest = go (key_eq n.key k)
     go false = refl
 push_some e es n k false rest = rest
 
-absent_head : (e : Entry) (es : List Entry) (k : Key) (b : Bool) → key_eq e.key k ≡ b → is_some (cond b (Some e) (entry_of es k)) ≡ false → (key_eq e.key k ≡ false) × (has_key es k ≡ false)
+pub absent_head : (e : Entry) (es : List Entry) (k : Key) (b : Bool) → key_eq e.key k ≡ b → is_some (cond b (Some e) (entry_of es k)) ≡ false → (key_eq e.key k ≡ false) × (has_key es k ≡ false)
 absent_head e es k true t h = absurd (true≢false h)
 absent_head e es k false t h = (t, h)
 

@@ -1,9 +1,15 @@
 pub mod CellLaws
 pub mod ChangeLaws
 pub mod DictLaws
+pub mod EachKeyLaws
 pub mod EntryLaws
 pub mod EventLaws
+pub mod KeptLaws
+pub mod KeyedLaws
+pub mod ListLaws
+pub mod MadeLaws
 pub mod NameLaws
+pub mod RefersLaws
 pub mod RowLaws
 pub mod SlotLaws
 pub mod SoundLaws

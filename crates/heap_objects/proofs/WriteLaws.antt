@@ -1,5 +1,5 @@
 -- Writes of names, attributes and items change one location alone.
-use Rattle.std.proofs.Common.{◌≡◌, ℕ, ◌<◌, List, [], ◌∷◌, length, refl, sym, subst}
+use Rattle.std.proofs.Common.{◌≡◌, ℕ, ◌<◌, ◌≤◌, List, [], ◌∷◌, length, refl, sym, subst}
 use Rattle.std.specs.Prelude.{Bool, true, false, Option, Some}
 use Rattle.flow_base.specs.declared.event.Event.{Event}
 use Rattle.flow_base.specs.declared.event.Event.TheVariants.{Write}
@@ -8,8 +8,8 @@ use Rattle.flow_base.specs.declared.loc.Loc.{Loc}
 use Rattle.flow_base.specs.declared.loc.Loc.TheVariants.{Attr, Name}
 use Rattle.flow_base.specs.declared.numbers.ObjRef.{ObjRef}
 use Rattle.flow_base.specs.declared.numbers.Sym.{Sym}
-use Rattle.heap_objects.specs.Calls.{dict_put, dict_remove, list_put, put_entry, put_events, put_item, remove_entry, remove_events, store_attr, store_name, stored}
-use Rattle.heap_objects.specs.Changes.{Wrote, after, put_change, remove_change}
+use Rattle.heap_objects.specs.Calls.{clear_entries, clear_events, dict_clear, dict_put, dict_remove, list_put, put_entry, put_events, put_item, remove_entry, remove_events, splice_events, splice_items, spliced, spliced_items, store_attr, store_name, stored}
+use Rattle.heap_objects.specs.Changes.{Wrote, after, clear_change, put_change, remove_change, splice_change}
 use Rattle.heap_objects.specs.Entries.{has_key}
 use Rattle.heap_objects.specs.State.{State, cell_at, content, content_in, held, item, logged, logged_all, with_cell}
 use Rattle.heap_objects.specs.Storable.{HasAttrs, HoldsName}
@@ -20,6 +20,8 @@ use Rattle.heap_objects.specs.declared.tree.Entry.{Entry}
 use Rattle.heap_objects.specs.declared.value.Value.{Value}
 use Rattle.heap_objects.proofs.CellLaws.{attr_law, name_law, put_entry_law, put_law, remove_law}
 use Rattle.heap_objects.proofs.ChangeLaws.{AreOf, wrote_cell}
+use Rattle.heap_objects.proofs.EachKeyLaws.{clear_law, of_keys}
+use Rattle.heap_objects.proofs.ListLaws.{of_splice, splice_law}
 
 pub nothing_wrote : (s : State) (e : Event) → Wrote [] s (logged e s)
 unfolding logged content
@@ -73,3 +75,18 @@ remove_wrote s d es k is =
     wrote_logged_all _ s (with_cell d (remove_entry k) s) (remove_events d k (cell_at s d))
     (wrote_cell d (remove_entry k) (remove_change d k es) s refl (refl, (refl, (refl, tt)))
     (λ l e. subst (λ (c : Cell). content_in (λ _. remove_entry k c) l ≡ after (remove_change d k es) (content_in (λ _. c)) l) (sym is) (remove_law es d k l e)))
+
+pub splice_wrote : (s : State) (o : ObjRef) (items : List Value) (i : ℕ) (tail : List Value) → cell_at s o ≡ cell.List items → i ≤ length items
+    → Wrote (splice_change o i items (spliced_items items i tail)) s (spliced o i tail s)
+unfolding spliced
+splice_wrote s o items i tail is le =
+    wrote_logged_all _ s (with_cell o (splice_items i tail) s) (splice_events o i tail (cell_at s o))
+    (wrote_cell o (splice_items i tail) (splice_change o i items (spliced_items items i tail)) s refl (of_splice o i items (spliced_items items i tail))
+    (λ l e. subst (λ (c : Cell). content_in (λ _. splice_items i tail c) l ≡ after (splice_change o i items (spliced_items items i tail)) (content_in (λ _. c)) l) (sym is) (splice_law items tail o i l le e)))
+
+pub clear_wrote : (s : State) (d : ObjRef) (es : List Entry) → cell_at s d ≡ cell.Dict es → Wrote (clear_change d es) s (dict_clear d s)
+unfolding dict_clear
+clear_wrote s d es is =
+    wrote_logged_all _ s (with_cell d clear_entries s) (clear_events d (cell_at s d))
+    (wrote_cell d clear_entries (clear_change d es) s refl (of_keys _ _ _ d es)
+    (λ l e. subst (λ (c : Cell). content_in (λ _. clear_entries c) l ≡ after (clear_change d es) (content_in (λ _. c)) l) (sym is) (clear_law es d l e)))

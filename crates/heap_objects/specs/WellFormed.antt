@@ -59,6 +59,10 @@ Refers_at at _ = Unit {0}
 abbrev pub Refers : (ObjRef → Option Object) → Value → Type 0
 Refers at = every-Value (Refers_at at)
 
+-- each reference in a value that may be absent
+abbrev pub RefersIf : (ObjRef → Option Object) → Option Value → Type 0
+RefersIf at v = (x : Value) → v ≡ Some x → Refers at x
+
 -- the objects with a smaller number
 abbrev pub before : State → ℕ → ObjRef → Option Object
 before s i o = if nat_lt o.0 i then object_at s o else None
@@ -71,6 +75,11 @@ IsClassValue_at at _ = ⊥
 
 abbrev pub IsClassValue : (ObjRef → Option Object) → Value → Type 0
 IsClassValue at x = IsClassValue_at at (out-Value x)
+
+-- the base of a class, if it has one
+abbrev pub IsBase : (ObjRef → Option Object) → Option Value → Type 0
+IsBase at None = Unit {0}
+IsBase at (Some base) = IsClassValue at base
 
 -- The fixed part of the object with this number names objects with smaller numbers. The global frame alone has no parent,
 -- and it is object 0.

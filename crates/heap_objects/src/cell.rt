@@ -115,6 +115,26 @@ impl Cell {
         }
     }
 
+    /// The number of slots of a frame.
+    pub fn slot_count(&self) -> usize
+        ensures { result ≡ length (spec_state.slots_in self.now) }
+    {
+        match self {
+            Cell::Frame(slots) => slots.len(),
+            _ => 0,
+        }
+    }
+
+    /// The number of keys of a dictionary.
+    pub fn key_count(&self) -> usize
+        ensures { result ≡ length (spec_state.keys_in self.now) }
+    {
+        match self {
+            Cell::Dict(dict) => dict.len(),
+            _ => 0,
+        }
+    }
+
     /// The name of the slot of a frame at a place from 0.
     pub fn slot_name(&self, at: usize) -> Sym
         requires { at < length (spec_state.slots_in self.now) }

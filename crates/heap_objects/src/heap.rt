@@ -38,7 +38,8 @@ impl Heap {
     /// A heap with the global frame alone, which is object 0.
     #[tactic(auto, unfolding(crate::specs::State::start))]
     pub fn new(alloc: Global) -> Result<Heap, NoMemory>
-        ensures { IfOk result (λ h. h ≡ spec.start) }
+        ensures start { IfOk result (λ h. h ≡ spec.start) }
+        ensures count { IfOk result (λ h. length h.nodes ≡ 1) }
     {
         let mut nodes = Vec::new(alloc);
         nodes.push(Node {
@@ -61,6 +62,13 @@ impl Heap {
     {
         self.run = run;
         self.events.clear();
+    }
+
+    /// The number of objects, without an event. The objects are those with a number below it. Takes no memory.
+    pub fn object_count(&self) -> usize
+        ensures { result ≡ length self.now.nodes }
+    {
+        self.nodes.len()
     }
 
     /// The kind and the fixed part of an object, without an event. Takes no memory.
@@ -141,6 +149,7 @@ impl Heap {
     pub(crate) fn make(&mut self, object: Object, cell: Cell) -> Result<ObjRef, NoMemory>
         ensures made { OnOk result (self.new ≡ spec.made object cell self.old) }
         ensures object { IfOk result (λ o. o ≡ spec.next_object self.old) }
+        ensures there { IfOk result (λ o. o.0 < length self.new.nodes) }
     {
         let o = ObjRef(self.nodes.len() as u64);
         self.nodes.push(Node { object, cell })?;

@@ -35,6 +35,17 @@ impl Heap {
         }
     }
 
+    /// The number of keys of a dictionary, and 0 for any other object, without an event. Takes no memory.
+    #[tactic(auto, unfolding(crate::specs::State::keys_at))]
+    pub fn key_count(&self, o: ObjRef) -> usize
+        ensures { result ≡ length (spec.keys_at self.now o) }
+    {
+        match self.cell(o) {
+            Some(cell) => cell.key_count(),
+            None => 0,
+        }
+    }
+
     /// The key of a dictionary at a place from 0, as it was first written, without an event.
     #[tactic(auto, unfolding(crate::specs::State::keys_at))]
     pub fn key_at(&self, o: ObjRef, i: usize) -> Result<Value, NoMemory>

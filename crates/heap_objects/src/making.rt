@@ -1,5 +1,5 @@
 // New objects.
-ghost use Rattle.std.specs.Prelude.{◌≡◌, ◌≢◌, ◌++◌, ◌∷◌, [], AllPairs, IfOk, OnOk, length};
+ghost use Rattle.std.specs.Prelude.{◌≡◌, ◌≢◌, ◌<◌, ◌++◌, ◌∷◌, [], AllPairs, IfOk, OnOk, length};
 ghost use Rattle.flow_base.specs.declared.event.Event.TheVariants.{Write};
 ghost use Rattle.flow_base.specs.declared.loc.Loc.TheVariants.{Shape};
 ghost use Rattle.heap_objects.specs.Calls as calls;
@@ -27,6 +27,8 @@ impl Heap {
         requires { AllPairs (λ m n. m ≢ n) syms.now }
         ensures state { OnOk result (self.new ≡ calls.new_frame parent syms.now self.old) }
         ensures object { IfOk result (λ o. o ≡ spec.next_object self.old) }
+        ensures there { IfOk result (λ o. o.0 < length self.new.nodes) }
+        ensures slots { IfOk result (λ f. spec.slots_at self.new f ≡ syms.now) }
     {
         let slots = Slots::new(self.alloc, syms)?;
         self.make(Object::Frame(Some(parent)), Cell::Frame(slots))
@@ -37,6 +39,7 @@ impl Heap {
     pub fn new_list(&mut self, items: Values) -> Result<ObjRef, NoMemory>
         ensures state { OnOk result (self.new ≡ calls.new_list items self.old) }
         ensures object { IfOk result (λ o. o ≡ spec.next_object self.old) }
+        ensures there { IfOk result (λ o. o.0 < length self.new.nodes) }
     {
         let list = Items::from_values(self.alloc, items.as_slice())?;
         let count = list.len();
@@ -51,6 +54,7 @@ impl Heap {
     pub fn new_dict(&mut self, keys: Values, values: Values) -> Result<ObjRef, NoMemory>
         ensures state { OnOk result (self.new ≡ calls.new_dict keys values self.old) }
         ensures object { IfOk result (λ o. o ≡ spec.next_object self.old) }
+        ensures there { IfOk result (λ o. o.0 < length self.new.nodes) }
     {
         let dict = dict_of(self.alloc, keys.as_slice(), values.as_slice())?;
         let o = ObjRef(self.nodes.len() as u64);
@@ -63,6 +67,7 @@ impl Heap {
     pub fn new_instance(&mut self, class: Value) -> Result<ObjRef, NoMemory>
         ensures state { OnOk result (self.new ≡ calls.new_instance class self.old) }
         ensures object { IfOk result (λ o. o ≡ spec.next_object self.old) }
+        ensures there { IfOk result (λ o. o.0 < length self.new.nodes) }
     {
         let attrs = Named::new(self.alloc);
         self.make(Object::Instance(class), Cell::Attrs(attrs))
@@ -73,6 +78,7 @@ impl Heap {
     pub fn new_class(&mut self, name: Sym, base: Option<Value>) -> Result<ObjRef, NoMemory>
         ensures state { OnOk result (self.new ≡ calls.new_class name base self.old) }
         ensures object { IfOk result (λ o. o ≡ spec.next_object self.old) }
+        ensures there { IfOk result (λ o. o.0 < length self.new.nodes) }
     {
         let attrs = Named::new(self.alloc);
         self.make(Object::Class { name, base }, Cell::Attrs(attrs))
@@ -89,6 +95,7 @@ impl Heap {
     ) -> Result<ObjRef, NoMemory>
         ensures state { OnOk result (self.new ≡ calls.new_function name code defaults parent self.old) }
         ensures object { IfOk result (λ o. o ≡ spec.next_object self.old) }
+        ensures there { IfOk result (λ o. o.0 < length self.new.nodes) }
     {
         let function = Object::Function {
             name,

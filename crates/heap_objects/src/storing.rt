@@ -1,5 +1,6 @@
 // Names, attributes and slots, read and written.
 ghost use Rattle.std.specs.Prelude.{◌≡◌, ◌<◌, IfOk, OnOk, length, slice_get};
+ghost use Rattle.flow_base.specs.declared.numbers.ObjRef.{ObjRef};
 ghost use Rattle.heap_objects.specs.Calls as calls;
 ghost use Rattle.heap_objects.specs.Names.{IsSymbols, name_at};
 ghost use Rattle.heap_objects.specs.State as spec;
@@ -49,6 +50,16 @@ impl Heap {
         }
     }
 
+    /// The number of slots of a function's frame, and 0 for any other object, without an event. Takes no memory.
+    pub fn slot_count(&self, f: ObjRef) -> usize
+        ensures { result ≡ length (spec.slots_at self.now f) }
+    {
+        match self.cell(f) {
+            Some(cell) => cell.slot_count(),
+            None => 0,
+        }
+    }
+
     /// Reads the slot of a function's frame at a place below the number of its slots, as `load` of its name does.
     #[tactic(auto, unfolding(crate::specs::State::value_at))]
     pub fn load_slot(
@@ -60,6 +71,7 @@ impl Heap {
         requires { i < length (spec.slots_at self.old f) }
         ensures value { IfOk result (λ v. v ≡ spec.value_at self.old (spec.slot_of self.old f i)) }
         ensures event { OnOk result (self.new ≡ spec.logged (spec.read_event how (spec.slot_of self.old f i)) self.old) }
+        ensures slots { OnOk result ((g : ObjRef) → spec.slots_at self.new g ≡ spec.slots_at self.old g) }
     {
         let value = copy_of(slot(self.nodes.as_slice(), f, i))?;
         let name = slot_name(self.nodes.as_slice(), f, i);
@@ -71,7 +83,8 @@ impl Heap {
     #[tactic(auto, unfolding(crate::specs::Calls::stored, crate::specs::State::logged, crate::specs::State::with_cell))]
     pub fn store_slot(&mut self, f: ObjRef, i: usize, v: Option<Value>) -> Result<(), NoMemory>
         requires { i < length (spec.slots_at self.old f) }
-        ensures { OnOk result (self.new ≡ calls.stored (spec.slot_of self.old f i) v self.old) }
+        ensures state { OnOk result (self.new ≡ calls.stored (spec.slot_of self.old f i) v self.old) }
+        ensures slots { OnOk result ((g : ObjRef) → spec.slots_at self.new g ≡ spec.slots_at self.old g) }
     {
         let name = slot_name(self.nodes.as_slice(), f, i);
         self.log(Event::Write(Loc::Name(f, name)))?;
