@@ -1,5 +1,5 @@
 -- What keeps a state sound.
-use Rattle.std.proofs.Common.{◌≡◌, ℕ, zero, suc, ◌+◌, ◌<◌, Bool, true, false, cond, List, [], ◌∷◌, ◌++◌, length, take, set, refl, sym, ap, subst, ◌∙◌, ◌⊎◌, inl, inr, arith}
+use Rattle.std.proofs.Common.{◌≡◌, ℕ, zero, suc, ◌+◌, ◌<◌, Bool, true, false, cond, List, [], ◌∷◌, ◌++◌, length, map, take, set, refl, sym, ap, subst, ◌∙◌, ◌⊎◌, inl, inr, arith}
 use Rattle.std.specs.Prelude.{Option, Some, None, ◌==◌, slice_get}
 use Rattle.std.specs.FinMap as fin
 use Rattle.std.specs.List.{All}
@@ -18,8 +18,8 @@ use Rattle.heap_objects.specs.Changes.{Keeps}
 use Rattle.heap_objects.specs.Entries.{with_all, with_entry, with_keyed, without}
 use Rattle.heap_objects.specs.Keyed.{key_of}
 use Rattle.heap_objects.specs.Names.{Names, SlotList, new_slots, slot_value, with_name, with_slot}
-use Rattle.heap_objects.specs.State.{State, begun, changed, logged, logged_all, made, object_at, with_cell}
-use Rattle.heap_objects.specs.WellFormed.{AreEntries, AreKeyed, Fits, Holds, IsBase, IsClassValue, IsFixed, IsFrame, IsSound, Refers, RefersIf, before}
+use Rattle.heap_objects.specs.State.{State, begun, cell_in, changed, count_at, count_in, keys_at, keys_in, logged, logged_all, made, object_at, object_in, start, with_cell}
+use Rattle.heap_objects.specs.WellFormed.{AreEntries, AreKeyed, Fits, Holds, IsBase, IsClassValue, IsFixed, IsFrame, IsNoFrame, IsSound, Refers, RefersIf, before}
 use Rattle.heap_objects.specs.declared.object.Cell.{Cell}
 use Rattle.heap_objects.specs.declared.object.Cell.TheVariants as cell
 use Rattle.heap_objects.specs.declared.object.Node.{Node}
@@ -32,7 +32,7 @@ use Rattle.heap_objects.proofs.ChangeLaws.{changed_head}
 use Rattle.heap_objects.proofs.KeptLaws.{KeepsSlots, attr_slots, clear_slots, item_slots, kept_cell, kept_made, name_slots, put_slots, remove_slots, splice_slots}
 use Rattle.heap_objects.proofs.KeyedLaws.{entries-weaker, entries-with_entry, entries-with_keyed, entries-without, keyed-with_all, keyed-with_entry, keyed-without}
 use Rattle.heap_objects.proofs.MadeLaws.{empty_slot}
-use Rattle.heap_objects.proofs.RefersLaws.{More, before_more, class_value_more, frame_more, keeps_more, refers_more, whole_before}
+use Rattle.heap_objects.proofs.RefersLaws.{More, before_more, class_value_more, frame_more, keeps_more, object_within, refers_more, whole_before}
 use Rattle.heap_objects.proofs.SlotLaws.{none_some, same_some}
 
 pub event_sound : (s : State) (e : Event) → IsSound s → IsSound (logged e s)
@@ -60,7 +60,7 @@ fixed_more s t i (object.Class name (Some base)) m h = class_value_more (before 
 fixed_more s t i (object.Function name code defaults parent) m h =
     (frame_more (before s i) (before t i) parent m h.0, All-weaker (Refers (before s i)) (Refers (before t i)) (λ x r. refers_more (before s i) (before t i) m x r) defaults h.1)
 
-holds_more : (P Q : Value → Type 0) → ((x : Value) → P x → Q x) → (c : Cell) → Holds P c → Holds Q c
+pub holds_more : (P Q : Value → Type 0) → ((x : Value) → P x → Q x) → (c : Cell) → Holds P c → Holds Q c
 holds_more P Q f (cell.Global names) h = λ n x e. f x (h n x e)
 holds_more P Q f (cell.Frame slots) h = λ n x e. f x (h n x e)
 holds_more P Q f (cell.List items) h = All-weaker P Q f items h
@@ -77,16 +77,16 @@ still_fixed s t i o k h = fixed_more s t i o (before_more s t i (keeps_more s t 
 -- ---- with one cell changed
 
 -- a node after a change of one cell, and the node before
-record Was (f : Cell → Cell) (ns : List Node) (i : ℕ) (n : Node) : Type 0 where
-  node : Node
-  there : slice_get ns i ≡ Some node
-  object : n.object ≡ node.object
-  cell : (n.cell ≡ node.cell) ⊎ (n.cell ≡ f node.cell)
+pub record Was (f : Cell → Cell) (ns : List Node) (i : ℕ) (n : Node) : Type 0 where
+  pub node : Node
+  pub there : slice_get ns i ≡ Some node
+  pub object : n.object ≡ node.object
+  pub cell : (n.cell ≡ node.cell) ⊎ (n.cell ≡ f node.cell)
 
 same_node : (f : Cell → Cell) (ns : List Node) (i : ℕ) (n : Node) → slice_get ns i ≡ Some n → Was f ns i n
 same_node f ns i n e = record { node = n; there = e; object = refl; cell = inl refl }
 
-was : (f : Cell → Cell) (ns : List Node) (j i : ℕ) (n : Node) → slice_get (changed f ns j) i ≡ Some n → Was f ns i n
+pub was : (f : Cell → Cell) (ns : List Node) (j i : ℕ) (n : Node) → slice_get (changed f ns j) i ≡ Some n → Was f ns i n
 was f [] j i n e = absurd (none_some n e)
 was f (m ∷ ms) zero zero n e =
     let same : record m { cell = f m.cell } ≡ n = same_some (record m { cell = f m.cell }) n e in
@@ -98,7 +98,7 @@ was f (m ∷ ms) (suc j) (suc i) n e =
     record { node = w.node; there = w.there; object = w.object; cell = w.cell }
 
 -- what a change does to a cell of any kind
-record IsSafe (s : State) (f : Cell → Cell) : Type 0 where
+pub record IsSafe (s : State) (f : Cell → Cell) : Type 0 where
   nothing : f cell.Nothing ≡ cell.Nothing
   slots : KeepsSlots f
   fits : (o : Object) (c : Cell) → Fits o c → Fits o (f c)
@@ -183,91 +183,98 @@ dict_fits (object.Frame (Some p)) a b f h = h
 dict_fits object.Dict a b f h = f h
 dict_fits o a b f h = h
 
+pub name_held : (P : Value → Type 0) (n : Sym) (v : Option Value) → ((x : Value) → v ≡ Some x → P x) → (c : Cell) → Holds P c → Holds P (store_name n v c)
+name_held P n v r (cell.Global names) h = held_name P names n v r h
+name_held P n v r (cell.Frame slots) h = held_slot P slots n v r h
+name_held P n v r (cell.List items) h = h
+name_held P n v r c h = h
+
 name_safe : (s : State) (n : Sym) (v : Option Value) → RefersIf (object_at s) v → IsSafe s (store_name n v)
-name_safe s n v r = record { nothing = refl; slots = name_slots n v; fits = fits; held = held }
+name_safe s n v r = record { nothing = refl; slots = name_slots n v; fits = fits; held = λ c h. name_held (Refers (object_at s)) n v r c h }
   where
     fits : (o : Object) (c : Cell) → Fits o c → Fits o (store_name n v c)
     fits o (cell.Global names) h = global_fits o names (with_name names n v) h
     fits o (cell.Frame slots) h = frame_fits o slots (with_slot slots n v) h
     fits o (cell.List items) h = h
     fits o c h = h
-    held : (c : Cell) → Holds (Refers (object_at s)) c → Holds (Refers (object_at s)) (store_name n v c)
-    held (cell.Global names) h = held_name (Refers (object_at s)) names n v r h
-    held (cell.Frame slots) h = held_slot (Refers (object_at s)) slots n v r h
-    held (cell.List items) h = h
-    held c h = h
+
+pub attr_held : (P : Value → Type 0) (n : Sym) (v : Option Value) → ((x : Value) → v ≡ Some x → P x) → (c : Cell) → Holds P c → Holds P (store_attr n v c)
+attr_held P n v r (cell.Attrs names) h = held_name P names n v r h
+attr_held P n v r (cell.List items) h = h
+attr_held P n v r c h = h
 
 attr_safe : (s : State) (n : Sym) (v : Option Value) → RefersIf (object_at s) v → IsSafe s (store_attr n v)
-attr_safe s n v r = record { nothing = refl; slots = attr_slots n v; fits = fits; held = held }
+attr_safe s n v r = record { nothing = refl; slots = attr_slots n v; fits = fits; held = λ c h. attr_held (Refers (object_at s)) n v r c h }
   where
     fits : (o : Object) (c : Cell) → Fits o c → Fits o (store_attr n v c)
     fits o (cell.Attrs names) h = attrs_fits o names (with_name names n v) h
     fits o (cell.List items) h = h
     fits o c h = h
-    held : (c : Cell) → Holds (Refers (object_at s)) c → Holds (Refers (object_at s)) (store_attr n v c)
-    held (cell.Attrs names) h = held_name (Refers (object_at s)) names n v r h
-    held (cell.List items) h = h
-    held c h = h
+
+pub item_held : (P : Value → Type 0) (i : ℕ) (v : Value) → P v → (c : Cell) → Holds P c → Holds P (put_item i v c)
+item_held P i v r (cell.List items) h = All-set P items i v r h
+item_held P i v r (cell.Attrs names) h = h
+item_held P i v r c h = h
 
 item_safe : (s : State) (i : ℕ) (v : Value) → Refers (object_at s) v → IsSafe s (put_item i v)
-item_safe s i v r = record { nothing = refl; slots = item_slots i v; fits = fits; held = held }
+item_safe s i v r = record { nothing = refl; slots = item_slots i v; fits = fits; held = λ c h. item_held (Refers (object_at s)) i v r c h }
   where
     fits : (o : Object) (c : Cell) → Fits o c → Fits o (put_item i v c)
     fits o (cell.List items) h = list_fits o items (set items i v) h
     fits o (cell.Attrs names) h = h
     fits o c h = h
-    held : (c : Cell) → Holds (Refers (object_at s)) c → Holds (Refers (object_at s)) (put_item i v c)
-    held (cell.List items) h = All-set (Refers (object_at s)) items i v r h
-    held (cell.Attrs names) h = h
-    held c h = h
+
+pub splice_held : (P : Value → Type 0) (i : ℕ) (tail : List Value) → All P tail → (c : Cell) → Holds P c → Holds P (splice_items i tail c)
+splice_held P i tail r (cell.List items) h = All-append P (take i items) tail (All-take P i items h) r
+splice_held P i tail r (cell.Attrs names) h = h
+splice_held P i tail r c h = h
 
 splice_safe : (s : State) (i : ℕ) (tail : List Value) → All (Refers (object_at s)) tail → IsSafe s (splice_items i tail)
-splice_safe s i tail r = record { nothing = refl; slots = splice_slots i tail; fits = fits; held = held }
+splice_safe s i tail r = record { nothing = refl; slots = splice_slots i tail; fits = fits; held = λ c h. splice_held (Refers (object_at s)) i tail r c h }
   where
     fits : (o : Object) (c : Cell) → Fits o c → Fits o (splice_items i tail c)
     fits o (cell.List items) h = list_fits o items (take i items ++ tail) h
     fits o (cell.Attrs names) h = h
     fits o c h = h
-    held : (c : Cell) → Holds (Refers (object_at s)) c → Holds (Refers (object_at s)) (splice_items i tail c)
-    held (cell.List items) h = All-append (Refers (object_at s)) (take i items) tail (All-take (Refers (object_at s)) i items h) r
-    held (cell.Attrs names) h = h
-    held c h = h
+
+pub put_held : (P : Value → Type 0) (k : Key) (spelled v : Value) → P spelled → P v → (c : Cell) → Holds P c → Holds P (put_entry k spelled v c)
+put_held P k spelled v r q (cell.Dict es) h = entries-with_entry P es k spelled v r q h
+put_held P k spelled v r q (cell.Attrs names) h = h
+put_held P k spelled v r q c h = h
 
 put_safe : (s : State) (k : Key) (spelled v : Value) → key_of spelled ≡ Some k → Refers (object_at s) spelled → Refers (object_at s) v → IsSafe s (put_entry k spelled v)
-put_safe s k spelled v is r q = record { nothing = refl; slots = put_slots k spelled v; fits = fits; held = held }
+put_safe s k spelled v is r q = record { nothing = refl; slots = put_slots k spelled v; fits = fits; held = λ c h. put_held (Refers (object_at s)) k spelled v r q c h }
   where
     fits : (o : Object) (c : Cell) → Fits o c → Fits o (put_entry k spelled v c)
     fits o (cell.Dict es) h = dict_fits o es (with_entry es k spelled v) (λ keyed. keyed-with_entry es k spelled v keyed is) h
     fits o (cell.Attrs names) h = h
     fits o c h = h
-    held : (c : Cell) → Holds (Refers (object_at s)) c → Holds (Refers (object_at s)) (put_entry k spelled v c)
-    held (cell.Dict es) h = entries-with_entry (Refers (object_at s)) es k spelled v r q h
-    held (cell.Attrs names) h = h
-    held c h = h
+
+pub remove_held : (P : Value → Type 0) (k : Key) → (c : Cell) → Holds P c → Holds P (remove_entry k c)
+remove_held P k (cell.Dict es) h = entries-without P es k h
+remove_held P k (cell.Attrs names) h = h
+remove_held P k c h = h
 
 remove_safe : (s : State) (k : Key) → IsSafe s (remove_entry k)
-remove_safe s k = record { nothing = refl; slots = remove_slots k; fits = fits; held = held }
+remove_safe s k = record { nothing = refl; slots = remove_slots k; fits = fits; held = λ c h. remove_held (Refers (object_at s)) k c h }
   where
     fits : (o : Object) (c : Cell) → Fits o c → Fits o (remove_entry k c)
     fits o (cell.Dict es) h = dict_fits o es (without es k) (keyed-without es k) h
     fits o (cell.Attrs names) h = h
     fits o c h = h
-    held : (c : Cell) → Holds (Refers (object_at s)) c → Holds (Refers (object_at s)) (remove_entry k c)
-    held (cell.Dict es) h = entries-without (Refers (object_at s)) es k h
-    held (cell.Attrs names) h = h
-    held c h = h
+
+pub clear_held : (P : Value → Type 0) → (c : Cell) → Holds P c → Holds P (clear_entries c)
+clear_held P (cell.Dict es) h = tt
+clear_held P (cell.Attrs names) h = h
+clear_held P c h = h
 
 clear_safe : (s : State) → IsSafe s clear_entries
-clear_safe s = record { nothing = refl; slots = clear_slots; fits = fits; held = held }
+clear_safe s = record { nothing = refl; slots = clear_slots; fits = fits; held = λ c h. clear_held (Refers (object_at s)) c h }
   where
     fits : (o : Object) (c : Cell) → Fits o c → Fits o (clear_entries c)
     fits o (cell.Dict es) h = dict_fits o es [] (λ keyed. tt) h
     fits o (cell.Attrs names) h = h
     fits o c h = h
-    held : (c : Cell) → Holds (Refers (object_at s)) c → Holds (Refers (object_at s)) (clear_entries c)
-    held (cell.Dict es) h = tt
-    held (cell.Attrs names) h = h
-    held c h = h
 
 pub store_sound : (s : State) (l : Loc) (v : Option Value) → IsSound s → RefersIf (object_at s) v → IsSound (stored l v s)
 unfolding stored
@@ -285,7 +292,7 @@ pub splice_sound : (s : State) (o : ObjRef) (i : ℕ) (tail : List Value) → Is
 unfolding spliced
 splice_sound s o i tail h r = events_sound _ _ (cell_sound s o (splice_items i tail) (splice_safe s i tail r) h)
 
-put_key_sound : (s : State) (d : ObjRef) (k : Key) (spelled v : Value) → key_of spelled ≡ Some k → IsSound s → Refers (object_at s) spelled → Refers (object_at s) v → IsSound (dict_put d k spelled v s)
+pub put_key_sound : (s : State) (d : ObjRef) (k : Key) (spelled v : Value) → key_of spelled ≡ Some k → IsSound s → Refers (object_at s) spelled → Refers (object_at s) v → IsSound (dict_put d k spelled v s)
 unfolding dict_put
 put_key_sound s d k spelled v is h r q = events_sound _ _ (cell_sound s d (put_entry k spelled v) (put_safe s k spelled v is r q) h)
 
@@ -307,7 +314,7 @@ clear_sound s d h = events_sound _ _ (cell_sound s d clear_entries (clear_safe s
 
 -- ---- with one object more
 
-pushed : (ns : List Node) (n : Node) (i : ℕ) (m : Node) → slice_get (ns ++ n ∷ []) i ≡ Some m → (slice_get ns i ≡ Some m) ⊎ ((i ≡ length ns) × (n ≡ m))
+pub pushed : (ns : List Node) (n : Node) (i : ℕ) (m : Node) → slice_get (ns ++ n ∷ []) i ≡ Some m → (slice_get ns i ≡ Some m) ⊎ ((i ≡ length ns) × (n ≡ m))
 pushed [] n zero m e = inr (refl, same_some n m e)
 pushed [] n (suc i) m e = absurd (none_some m e)
 pushed (x ∷ xs) n zero m e = inl e
@@ -336,7 +343,7 @@ made_sound s o c h fixed fits held = go (kept_made o c s)
       ];
     }
 
-no_name : (m : ℕ) (x : Value) → fin.get {R = nat_cmp} fin.empty m ≡ Some x → ⊥
+pub no_name : (m : ℕ) (x : Value) → fin.get {R = nat_cmp} fin.empty m ≡ Some x → ⊥
 no_name m x e = none_some x (sym (fin.get-empty nat_cmp m) ∙ e)
 
 pub frame_sound : (s : State) (parent : ObjRef) (names : List Sym) → IsSound s → IsFrame (object_at s parent) → IsSound (new_frame parent names s)
@@ -349,7 +356,7 @@ pub list_sound : (s : State) (items : List Value) → IsSound s → All (Refers 
 unfolding new_list
 list_sound s items h r = events_sound _ _ (made_sound s object.List (cell.List items) h tt tt r)
 
-with_all_held : (P : Value → Type 0) (es : List Entry) (keys values : List Value) → All P keys → All P values → AreEntries P es → AreEntries P (with_all es keys values)
+pub with_all_held : (P : Value → Type 0) (es : List Entry) (keys values : List Value) → All P keys → All P values → AreEntries P es → AreEntries P (with_all es keys values)
 with_all_held P es [] values p q h = h
 with_all_held P es (k ∷ keys) [] p q h = h
 with_all_held P es (k ∷ keys) (v ∷ values) p q h =
@@ -380,3 +387,52 @@ function_sound s name code defaults parent h r is =
     made_sound s (object.Function name code defaults parent) cell.Nothing h
     (frame_more (object_at s) (before s (length s.nodes)) parent (whole_before s) is, All-weaker (Refers (object_at s)) (Refers (before s (length s.nodes))) (λ x q. refers_more _ _ (whole_before s) x q) defaults r)
     tt tt
+
+-- ---- the start, and what a sound state tells
+
+pub start_sound : IsSound start
+unfolding start
+start_sound = record {
+  fixed = λ i n e. let at = only i n e in subst (λ (j : ℕ). IsFixed start j n.object) (sym at.0) (subst (λ (x : Node). IsFixed start 0 x.object) at.1 refl);
+  fits = λ i n e. subst (λ (x : Node). Fits x.object x.cell) (only i n e).1 tt;
+  held = λ i n e. subst (λ (x : Node). Holds (Refers (object_at start)) x.cell) (only i n e).1 (λ m x f. absurd (no_name m x f));
+}
+  where
+    first : Node
+    first = record { object = object.Frame None; cell = cell.Global fin.empty }
+    only : (i : ℕ) (n : Node) → slice_get (first ∷ []) i ≡ Some n → (i ≡ 0) × (first ≡ n)
+    only zero n e = (refl, same_some first n e)
+    only (suc i) n e = absurd (none_some n e)
+
+some_node : (o : Option Node) (x : Object) → object_in o ≡ Some x → (n : Node) × (o ≡ Some n) × (n.object ≡ x)
+some_node None x e = absurd (none_some x e)
+some_node (Some n) x e = (n, refl, same_some n.object x e)
+
+spelled_count : (es : List Entry) → length es ≡ length (map (λ e. e.spelled) es)
+spelled_count [] = refl
+spelled_count (e ∷ es) = ap suc (spelled_count es)
+
+keys_of_dict : (c : Cell) → Fits object.Dict c → count_in c ≡ length (keys_in c)
+keys_of_dict (cell.Dict es) h = spelled_count es
+keys_of_dict (cell.Global names) h = refl
+keys_of_dict (cell.Frame slots) h = refl
+keys_of_dict (cell.List items) h = absurd h
+keys_of_dict (cell.Attrs names) h = refl
+keys_of_dict cell.Nothing h = refl
+
+-- the count of a dictionary is the number of its keys
+pub sound_keys : (s : State) (d : ObjRef) → IsSound s → object_at s d ≡ Some object.Dict → count_at s d ≡ length (keys_at s d)
+unfolding count_at keys_at
+sound_keys s d h e =
+    let at = some_node (slice_get s.nodes d.0) object.Dict e in
+    ap (λ (o : Option Node). count_in (cell_in o)) at.1
+    ∙ keys_of_dict at.0.cell (subst (λ (x : Object). Fits x at.0.cell) at.2 (h.fits d.0 at.0 at.1))
+    ∙ ap (λ (o : Option Node). length (keys_in (cell_in o))) (sym at.1)
+
+-- a reference in a value names an object that is there
+pub refers_within : (s : State) (o : ObjRef) → IsNoFrame (object_at s o) → o.0 < length s.nodes
+refers_within s o h = go (object_at s o) refl h
+  where
+    go : (p : Option Object) → object_at s o ≡ p → IsNoFrame p → o.0 < length s.nodes
+    go None e never = absurd never
+    go (Some x) e is = object_within s o x e

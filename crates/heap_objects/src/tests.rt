@@ -1,5 +1,5 @@
 // Each public call with ample memory. The helpers are short, since each is proved too.
-use crate::{Heap, Value, Values, key_of};
+use crate::{Heap, Object, Value, Values, key_of};
 use flow_base::{
     CodeRef, Event, How, Key, Loc, NoMemory, ObjRef, ReadHow, RunNo, Shared, Sym, same_key,
 };
@@ -127,6 +127,56 @@ fn attributes(heap: &mut Heap) -> Result<bool, NoMemory> {
     Ok(names.as_slice() == [Sym(3), Sym(7)].as_slice())
 }
 
+// The second slot by its place, and by its name.
+fn slots_by_place(heap: &mut Heap) -> Result<bool, NoMemory> {
+    let frame = heap.new_frame(ObjRef(0), &[Sym(9), Sym(5)])?;
+    heap.begin_run(RunNo(1));
+    write_slot(heap, frame, 1, Value::Int(6))?;
+    let value = read_slot(heap, frame, 1)?;
+    Ok(is_int(value, 6) && did(heap, "Na") && holds(heap, &Loc::Name(frame, Sym(5)), 6)?)
+}
+
+fn write_slot(heap: &mut Heap, frame: ObjRef, i: usize, value: Value) -> Result<(), NoMemory> {
+    if i < heap.slot_count(frame) {
+        heap.store_slot(frame, i, Some(value))?;
+    }
+    Ok(())
+}
+
+fn read_slot(heap: &mut Heap, frame: ObjRef, i: usize) -> Result<Option<Value>, NoMemory> {
+    if i < heap.slot_count(frame) {
+        return heap.load_slot(frame, i, ReadHow::Use);
+    }
+    Ok(None)
+}
+
+// The same without a test of the number of slots, since the frame was made with one.
+fn only_slot(heap: &mut Heap) -> Result<bool, NoMemory> {
+    let frame = heap.new_frame(ObjRef(0), &[Sym(3)])?;
+    heap.store_slot(frame, 0, Some(Value::Int(7)))?;
+    let value = heap.load_slot(frame, 0, ReadHow::Place)?;
+    Ok(is_int(value, 7))
+}
+
+fn is_list(heap: &Heap, o: ObjRef) -> bool {
+    o.0 < heap.object_count() as u64 && matches!(heap.object(o), Object::List)
+}
+
+fn kinds(a: Global, heap: &mut Heap) -> Result<bool, NoMemory> {
+    let o = heap.new_list(numbers(a, &[1])?)?;
+    let made = matches!(heap.object(o), Object::List);
+    Ok(made && is_list(heap, o) && !is_list(heap, ObjRef(0)))
+}
+
+#[test]
+fn places_of_slots(rt: HostRuntime) -> Result<(), Fail> {
+    let mut heap = Heap::new(rt.alloc())?;
+    assert!(rt; slots_by_place(&mut heap)?);
+    assert!(rt; only_slot(&mut heap)?);
+    assert!(rt; kinds(rt.alloc(), &mut heap)?);
+    Ok(())
+}
+
 #[test]
 fn names_and_attributes(rt: HostRuntime) -> Result<(), Fail> {
     let mut heap = Heap::new(rt.alloc())?;
@@ -183,11 +233,26 @@ fn clears(heap: &mut Heap, d: ObjRef) -> Result<bool, NoMemory> {
     Ok(put && did(heap, "IPIPS") && heap.count(d) == 0)
 }
 
+// The keys at the first two places.
+fn keys_by_place(heap: &Heap, d: ObjRef) -> Result<bool, NoMemory> {
+    Ok(is_int(key_if(heap, d, 0)?, 1)
+        && is_int(key_if(heap, d, 1)?, 2)
+        && key_if(heap, d, 2)?.is_none())
+}
+
+fn key_if(heap: &Heap, d: ObjRef, i: usize) -> Result<Option<Value>, NoMemory> {
+    if i < heap.key_count(d) {
+        return Ok(Some(heap.key_at(d, i)?));
+    }
+    Ok(None)
+}
+
 #[test]
 fn dictionaries(rt: HostRuntime) -> Result<(), Fail> {
     let a = rt.alloc();
     let mut heap = Heap::new(a)?;
     let d = heap.new_dict(numbers(a, &[1, 2, 1])?, numbers(a, &[10, 20, 30])?)?;
+    assert!(rt; keys_by_place(&heap, d)?);
     assert!(rt; puts(&mut heap, d)?);
     assert!(rt; removes(&mut heap, d)?);
     assert!(rt; clears(&mut heap, d)?);
