@@ -4,6 +4,7 @@ pub mod DictLaws
 pub mod EachKeyLaws
 pub mod EntryLaws
 pub mod EventLaws
+pub mod FormedLaws
 pub mod KeptLaws
 pub mod KeyedLaws
 pub mod ListLaws

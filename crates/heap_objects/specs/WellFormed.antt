@@ -8,6 +8,7 @@ use Rattle.std.specs.List.{All}
 use Rattle.flow_base.specs.declared.numbers.CodeRef.{CodeRef}
 use Rattle.flow_base.specs.declared.numbers.ObjRef.{ObjRef}
 use Rattle.flow_base.specs.declared.numbers.Sym.{Sym}
+use Rattle.heap_objects.specs.Changes.{Keeps}
 use Rattle.heap_objects.specs.Entries.{has_key}
 use Rattle.heap_objects.specs.Keyed.{key_of}
 use Rattle.heap_objects.specs.Names.{slot_value}
@@ -175,6 +176,20 @@ pub record IsLawful (rules : Rules) (s : State) (x : Value) : Type 0 where
 abbrev pub IsLawfulFunction : Rules → State → Object → Type 0
 IsLawfulFunction rules s (object.Function name code defaults parent) = IsTrue (rules.is_code s name code (length defaults) parent)
 IsLawfulFunction rules s _ = Unit {0}
+
+-- the rules let stand what they let stand, while objects are added
+pub record AreSteady (rules : Rules) : Type 0 where
+  pub methods : (s t : State) (name : Sym) (receiver : Value) → Keeps s t → IsTrue (rules.is_method s name receiver) → IsTrue (rules.is_method t name receiver)
+  pub codes : (s t : State) (name : Sym) (code : CodeRef) (defaults : ℕ) (parent : ObjRef) → Keeps s t → IsTrue (rules.is_code s name code defaults parent)
+      → IsTrue (rules.is_code t name code defaults parent)
+
+-- a value that a call may be given
+pub record IsAllowed (rules : Rules) (s : State) (x : Value) : Type 0 where
+  pub refers : Refers (object_at s) x
+  pub lawful : IsLawful rules s x
+
+abbrev pub IsAllowedIf : Rules → State → Option Value → Type 0
+IsAllowedIf rules s v = (x : Value) → v ≡ Some x → IsAllowed rules s x
 
 -- in full
 pub record IsWellFormed (rules : Rules) (s : State) : Type 0 where

@@ -1,6 +1,6 @@
 // What the definitions mean.
 ghost use Rattle.std.specs.List.{All};
-ghost use Rattle.std.specs.Prelude.{◌≡◌, ◌<◌, ◌≤◌, ℕ, List, [], ◌∷◌, Option, Some, length, map};
+ghost use Rattle.std.specs.Prelude.{◌≡◌, ◌<◌, ◌≤◌, IsTrue, ℕ, List, [], ◌∷◌, Option, Some, length, map};
 ghost use Rattle.flow_base.specs.declared.event.Event.{Event};
 ghost use Rattle.flow_base.specs.declared.key.Key.{Key};
 ghost use Rattle.flow_base.specs.declared.loc.Loc.{Loc};
@@ -16,7 +16,7 @@ ghost use Rattle.heap_objects.specs.Nesting.{kept_nesting, nesting, tuple_of};
 ghost use Rattle.flow_base.specs.declared.numbers.RunNo.{RunNo};
 ghost use Rattle.heap_objects.specs.State.{State, begun, cell_at, count_at, held, item, keys_at, logged, next_object, object_at, start};
 ghost use Rattle.heap_objects.specs.Storable.{HasAttrs, HoldsName};
-ghost use Rattle.heap_objects.specs.WellFormed.{IsBase, IsClassValue, IsFrame, IsNoFrame, IsSound, IsWellFormed, Refers, RefersIf, Rules};
+ghost use Rattle.heap_objects.specs.WellFormed.{AreSteady, IsAllowed, IsAllowedIf, IsBase, IsClassValue, IsFrame, IsLawful, IsNoFrame, IsSound, IsWellFormed, Refers, RefersIf, Rules};
 ghost use Rattle.heap_objects.specs.Tree.{depth, key_of_tree, tree_of};
 ghost use Rattle.heap_objects.specs.declared.object.Cell.TheVariants as cell;
 ghost use Rattle.heap_objects.specs.declared.object.Object.TheVariants as object;
@@ -112,4 +112,36 @@ pub fn sound_law()
     ensures keys { (s : State) (d : ObjRef) → IsSound s → object_at s d ≡ Some object.Dict → count_at s d ≡ length (keys_at s d) }
     ensures there { (s : State) (o : ObjRef) → IsNoFrame (object_at s o) → o.0 < length s.nodes }
     ensures full { (rules : Rules) (s : State) → IsWellFormed rules s → IsSound s }
+{}
+
+/// The first state is well formed, and each call keeps a state well formed where it is given values that refer to objects that
+/// are there and are lawful, as `sound_law` says of which kinds, and code that is known to a new function. The rules let stand
+/// what they let stand while objects are added.
+pub fn formed_law()
+    ensures start { (rules : Rules) → IsWellFormed rules start }
+    ensures event { (rules : Rules) (s : State) (e : Event) → AreSteady rules → IsWellFormed rules s → IsWellFormed rules (logged e s) }
+    ensures run { (rules : Rules) (s : State) (run : RunNo) → AreSteady rules → IsWellFormed rules s → IsWellFormed rules (begun run s) }
+    ensures store { (rules : Rules) (s : State) (l : Loc) (v : Option Value) → AreSteady rules → IsWellFormed rules s → IsAllowedIf rules s v
+        → IsWellFormed rules (stored l v s) }
+    ensures item { (rules : Rules) (s : State) (o : ObjRef) (i : ℕ) (v : Value) → AreSteady rules → IsWellFormed rules s → IsAllowed rules s v
+        → IsWellFormed rules (list_put o i v s) }
+    ensures splice { (rules : Rules) (s : State) (o : ObjRef) (i : ℕ) (tail : List Value) → AreSteady rules → IsWellFormed rules s
+        → All (IsAllowed rules s) tail → IsWellFormed rules (spliced o i tail s) }
+    ensures put { (rules : Rules) (s : State) (d : ObjRef) (k v : Value) → AreSteady rules → IsWellFormed rules s → IsAllowed rules s k
+        → IsAllowed rules s v → IsWellFormed rules (put_at d (key_of k) k v s) }
+    ensures remove { (rules : Rules) (s : State) (d : ObjRef) (k : Key) → AreSteady rules → IsWellFormed rules s → IsWellFormed rules (dict_remove d k s) }
+    ensures clear { (rules : Rules) (s : State) (d : ObjRef) → AreSteady rules → IsWellFormed rules s → IsWellFormed rules (dict_clear d s) }
+    ensures frame { (rules : Rules) (s : State) (parent : ObjRef) (names : List Sym) → AreSteady rules → IsWellFormed rules s
+        → IsFrame (object_at s parent) → IsWellFormed rules (new_frame parent names s) }
+    ensures list { (rules : Rules) (s : State) (items : List Value) → AreSteady rules → IsWellFormed rules s → All (IsAllowed rules s) items
+        → IsWellFormed rules (new_list items s) }
+    ensures dict { (rules : Rules) (s : State) (keys values : List Value) → AreSteady rules → IsWellFormed rules s → All (IsAllowed rules s) keys
+        → All (IsAllowed rules s) values → IsWellFormed rules (new_dict keys values s) }
+    ensures instance { (rules : Rules) (s : State) (class : Value) → AreSteady rules → IsWellFormed rules s → IsClassValue (object_at s) class
+        → IsLawful rules s class → IsWellFormed rules (new_instance class s) }
+    ensures class { (rules : Rules) (s : State) (name : Sym) (base : Option Value) → AreSteady rules → IsWellFormed rules s → IsBase (object_at s) base
+        → ((x : Value) → base ≡ Some x → IsLawful rules s x) → IsWellFormed rules (new_class name base s) }
+    ensures function { (rules : Rules) (s : State) (name : Sym) (code : CodeRef) (defaults : List Value) (parent : ObjRef) → AreSteady rules
+        → IsWellFormed rules s → All (IsAllowed rules s) defaults → IsFrame (object_at s parent) → IsTrue (rules.is_code s name code (length defaults) parent)
+        → IsWellFormed rules (new_function name code defaults parent s) }
 {}
