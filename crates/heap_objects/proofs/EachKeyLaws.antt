@@ -1,7 +1,7 @@
 -- What a clear and the making of a dictionary leave.
 use Rattle.std.proofs.Common.{◌≡◌, Bool, true, false, cond, List, [], ◌∷◌, refl, sym, ap, ◌∙◌}
-use Rattle.std.specs.Prelude.{Option, Some, None, is_some, ◌==◌, ◌&&◌}
-use Rattle.flow_base.specs.Same.{key_eq, loc_eq}
+use Rattle.std.specs.Prelude.{Option, Some, None, is_some}
+use Rattle.flow_base.specs.Same.{key_eq}
 use Rattle.flow_base.specs.declared.key.Key.{Key}
 use Rattle.flow_base.specs.declared.loc.Loc.{Loc}
 use Rattle.flow_base.specs.declared.loc.Loc.TheVariants as loc
@@ -13,7 +13,6 @@ use Rattle.heap_objects.specs.Changes.{after, clear_change, dict_change, each_ke
 use Rattle.heap_objects.specs.Entries.{entry_of, has_key}
 use Rattle.heap_objects.specs.State.{content_in, entry_value, held, object_of, present_if}
 use Rattle.heap_objects.specs.WellFormed.{AreKeyed}
-use Rattle.heap_objects.specs.declared.object.Cell.{Cell}
 use Rattle.heap_objects.specs.declared.object.Cell.TheVariants as cell
 use Rattle.heap_objects.specs.declared.object.Content.{Content}
 use Rattle.heap_objects.specs.declared.object.Content.TheVariants.{Absent, Held, Keys, Present}

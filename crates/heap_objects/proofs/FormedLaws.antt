@@ -1,5 +1,5 @@
 -- What keeps a state well formed.
-use Rattle.std.proofs.Common.{◌≡◌, ℕ, zero, suc, List, [], ◌∷◌, ◌++◌, length, refl, sym, ap, subst, ◌∙◌, ◌⊎◌, inl, inr}
+use Rattle.std.proofs.Common.{◌≡◌, ℕ, zero, suc, List, [], ◌∷◌, length, refl, sym, subst, ◌∙◌, inl, inr}
 use Rattle.std.specs.Prelude.{IsTrue, Option, Some, None, slice_get}
 use Rattle.std.specs.FinMap as fin
 use Rattle.std.specs.List.{All}
@@ -104,10 +104,10 @@ cell_formed : (rules : Rules) (s : State) (o : ObjRef) (f : Cell → Cell) → A
 unfolding with_cell
 cell_formed rules s o f steady k sound held h = formed_later rules s (with_cell o f s) steady k sound (record {
   values = λ i n e. let w = was f s.nodes o.0 i n e in
-    elim w.cell [
-      | inl same ↦ subst (Holds (IsLawful rules s)) (sym same) (h.values i w.node w.there)
-      | inr new ↦ subst (Holds (IsLawful rules s)) (sym new) (held w.node.cell (h.values i w.node w.there))
-    ];
+      elim w.cell [
+        | inl same ↦ subst (Holds (IsLawful rules s)) (sym same) (h.values i w.node w.there)
+        | inr new ↦ subst (Holds (IsLawful rules s)) (sym new) (held w.node.cell (h.values i w.node w.there))
+      ];
   fixed_values = λ i n e. let w = was f s.nodes o.0 i n e in subst (FixedHolds (IsLawful rules s)) (sym w.object) (h.fixed_values i w.node w.there);
   functions = λ i n e. let w = was f s.nodes o.0 i n e in subst (IsLawfulFunction rules s) (sym w.object) (h.functions i w.node w.there);
 })
@@ -275,6 +275,7 @@ start_formed rules = record {
   where
     first : Node
     first = record { object = object.Frame None; cell = cell.Global fin.empty }
+
     only : (i : ℕ) (n : Node) → slice_get (first ∷ []) i ≡ Some n → first ≡ n
     only zero n e = same_some first n e
     only (suc i) n e = absurd (none_some n e)

@@ -1,5 +1,5 @@
 -- What no call changes: the objects that are there, and the names of their slots.
-use Rattle.std.proofs.Common.{◌≡◌, ◌≢◌, ℕ, zero, suc, ◌+◌, ◌<◌, ◌≤◌, Bool, true, false, cond, List, [], ◌∷◌, ◌++◌, length, set, refl, sym, ap, ◌∙◌, arith, ne_eqb, length-set}
+use Rattle.std.proofs.Common.{◌≡◌, ℕ, zero, suc, ◌+◌, ◌<◌, ◌≤◌, Bool, true, false, cond, List, [], ◌∷◌, ◌++◌, length, set, refl, sym, ap, ◌∙◌, arith, ne_eqb}
 use Rattle.std.specs.Prelude.{Option, Some, None, ◌==◌, slice_get}
 use Rattle.flow_base.specs.declared.event.Event.{Event}
 use Rattle.flow_base.specs.declared.key.Key.{Key}
@@ -11,7 +11,7 @@ use Rattle.flow_base.specs.declared.numbers.Sym.{Sym}
 use Rattle.heap_objects.specs.Calls.{clear_entries, dict_clear, dict_put, dict_remove, list_put, put_at, put_entry, put_item, remove_entry, splice_items, spliced, store_attr, store_name, stored}
 use Rattle.heap_objects.specs.Changes.{Keeps}
 use Rattle.heap_objects.specs.Names.{SlotList, slot_names, with_slot}
-use Rattle.heap_objects.specs.State.{State, begun, cell_in, changed, changed_at, logged, logged_all, made, object_at, object_in, slots_at, slots_in, with_cell}
+use Rattle.heap_objects.specs.State.{State, begun, cell_in, changed, changed_at, logged, logged_all, made, object_in, slots_at, slots_in, with_cell}
 use Rattle.heap_objects.specs.declared.object.Cell.{Cell}
 use Rattle.heap_objects.specs.declared.object.Cell.TheVariants as cell
 use Rattle.heap_objects.specs.declared.object.Node.{Node}

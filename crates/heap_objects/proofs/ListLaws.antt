@@ -1,9 +1,9 @@
 -- What a splice and the making of a list leave.
-use Rattle.std.proofs.Common.{◌≡◌, ◌≢◌, ℕ, zero, suc, ◌+◌, ◌-◌, ◌<◌, ◌≤◌, Bool, true, false, cond, List, [], ◌∷◌, ◌++◌, length, take, max, refl, sym, ap, subst, ◌∙◌, inl, inr, arith, eq-eqb, eqb-true, ne_eqb}
-use Rattle.std.specs.Prelude.{Option, Some, None, ◌==◌, ◌&&◌, pos, negsuc, slice_get}
+use Rattle.std.proofs.Common.{◌≡◌, ◌≢◌, ℕ, zero, suc, ◌+◌, ◌-◌, ◌<◌, ◌≤◌, Bool, true, false, cond, List, [], ◌∷◌, ◌++◌, length, take, max, refl, sym, ap, subst, ◌∙◌, inl, inr, arith, eq-eqb, eqb-true}
+use Rattle.std.specs.Prelude.{◌==◌, pos, negsuc, slice_get}
 use Rattle.std.proofs.lemmas.Bool.{cases_lt, true≢false}
 use Rattle.std.proofs.lemmas.Option.{slice_get_past}
-use Rattle.flow_base.specs.Same.{key_eq, loc_eq}
+use Rattle.flow_base.specs.Same.{loc_eq}
 use Rattle.flow_base.specs.declared.key.Key.{Key, out-Key, roll-Key}
 use Rattle.flow_base.specs.declared.key.Key.TheOpen as key
 use Rattle.flow_base.specs.declared.key.Key.TheOpen.{Key-F}
@@ -11,14 +11,13 @@ use Rattle.flow_base.specs.declared.key.Key.TheViews.{out-roll-Key, roll-out-Key
 use Rattle.flow_base.specs.declared.loc.Loc.{Loc}
 use Rattle.flow_base.specs.declared.loc.Loc.TheVariants as loc
 use Rattle.flow_base.specs.declared.numbers.ObjRef.{ObjRef}
-use Rattle.flow_base.proofs.SameLaws.{same_key_true, same_loc_true, true_same_loc}
+use Rattle.flow_base.proofs.SameLaws.{same_loc_true, true_same_loc}
 use Rattle.heap_objects.specs.Calls.{splice_items, spliced_items}
 use Rattle.heap_objects.specs.Changes.{after, item_changes, length_change, list_change, splice_change}
 use Rattle.heap_objects.specs.State.{content_in, held, item, list_item, object_of}
-use Rattle.heap_objects.specs.declared.object.Cell.{Cell}
 use Rattle.heap_objects.specs.declared.object.Cell.TheVariants as cell
 use Rattle.heap_objects.specs.declared.object.Content.{Content}
-use Rattle.heap_objects.specs.declared.object.Content.TheVariants.{Absent, Held, Length}
+use Rattle.heap_objects.specs.declared.object.Content.TheVariants.{Absent, Length}
 use Rattle.heap_objects.specs.declared.value.Value.{Value}
 use Rattle.heap_objects.proofs.ChangeLaws.{AreOf}
 
@@ -57,9 +56,11 @@ same_item o p i j e = go (out-Key (roll-Key (key.Int (pos i)))) (out-Key (roll-K
     key_in : Loc → Key-F Key
     key_in (loc.Item o k) = out-Key k
     key_in _ = key.Nil
+
     number : Key-F Key → ℕ
     number (key.Int (pos n)) = n
     number _ = 0
+
     go : (x y : Key-F Key) → x ≡ key.Int (pos i) → y ≡ key.Int (pos j) → x ≡ y → i ≡ j
     go x y a b e = ap number (sym a ∙ e ∙ b)
 
@@ -78,6 +79,7 @@ items_near o items i (suc n) c j le lt = go (i == j) refl (λ above below. items
   where
     next : Loc → Content
     next k = cond (loc_eq (item o i) k) (held (slice_get items i)) (c k)
+
     go : (b : Bool) → (i == j) ≡ b → (suc i ≤ j → j < suc i + n → after (item_changes o items (suc i) n) next (item o j) ≡ held (slice_get items j))
         → after (item_changes o items (suc i) n) next (item o j) ≡ held (slice_get items j)
     go true e rest = let same : i ≡ j = eqb-true i j e in
@@ -92,6 +94,7 @@ no_item o f k x i is other = go (loc_eq (item o i) (loc.Item f k)) refl
     key_in : Loc → Key-F Key
     key_in (loc.Item o k) = out-Key k
     key_in _ = key.Nil
+
     go : (b : Bool) → loc_eq (item o i) (loc.Item f k) ≡ b → b ≡ false
     go true e = absurd (other (sym is ∙ ap key_in (sym (same_loc_true (item o i) (loc.Item f k) e)) ∙ out-roll-Key (key.Int (pos i))))
     go false e = refl
@@ -125,7 +128,7 @@ data Stands (i n j : ℕ) : Type 0 where
   beyond : n ≤ j → Stands i n j
 
 stands : (i n j : ℕ) → Stands i n j
-stands i n j = elim (cases_lt j i) [ | inl lt ↦ before lt | inr le ↦ elim (cases_lt j n) [ | inl lt ↦ among le (omega arith) | inr ge ↦ beyond ge ] ]
+stands i n j = elim (cases_lt j i) [ inl lt ↦ before lt | inr le ↦ elim (cases_lt j n) [ inl lt ↦ among le (omega arith) | inr ge ↦ beyond ge ] ]
 
 -- what an item holds after the writes of all from one on
 item_now : (o f : ObjRef) (old new : List Value) (i n : ℕ) (c : Loc → Content) (k : Key) (x : Key-F Key) → n ≡ max (length old) (length new) → IsFrom i old new → o ≡ f
@@ -135,8 +138,10 @@ item_now o f old new i n c k (key.Int (pos j)) ends h e is was = go (stands i n 
   where
     same : item o j ≡ loc.Item f k
     same = int_item o f k j e is
+
     far : ((m : ℕ) → i ≤ m → m < i + (n - i) → m ≢ j) → after (item_changes o new i (n - i)) c (loc.Item f k) ≡ c (loc.Item f k)
     far apart = items_far o new i (n - i) c (loc.Item f k) (λ m le lt. subst (λ (l : Loc). loc_eq (item o m) l ≡ false) same (other_place o m j (apart m le lt)))
+
     go : Stands i n j → held (slice_get new j) ≡ after (item_changes o new i (n - i)) c (loc.Item f k)
     go (before lt) = ap held (h.before j lt) ∙ sym was ∙ sym (far (λ m le below p. omega arith))
     go (among le lt) = sym (items_near o new i (n - i) c j le lt) ∙ ap (after (item_changes o new i (n - i)) c) same
@@ -163,12 +168,16 @@ splice_law items tail o i l le e = law l e ∙ sym (after_both writes (length_ch
   where
     new : List Value
     new = spliced_items items i tail
+
     was : Loc → Content
     was = content_in (λ _. cell.List items)
+
     writes : List (Loc × Content)
     writes = item_changes o new i (max (length items) (length new) - i)
+
     last : List (Loc × Content)
     last = length_change o (length new) (length items == length new)
+
     law : (l : Loc) → o ≡ object_of l → content_in (λ _. cell.List new) l ≡ after last (after writes was) l
     law (loc.Name f n) e = sym (not_length o (length new) (length items == length new) (after writes was) (loc.Name f n) refl ∙ items_far o new i (max (length items) (length new) - i) was (loc.Name f n) (λ j a b. refl))
     law (loc.Attr f n) e = sym (not_length o (length new) (length items == length new) (after writes was) (loc.Attr f n) refl ∙ items_far o new i (max (length items) (length new) - i) was (loc.Attr f n) (λ j a b. refl))
@@ -186,12 +195,16 @@ list_law items o l e = law l e ∙ sym (after_both writes ((loc.Shape o, Length 
   where
     was : Loc → Content
     was = content_in (λ _. cell.Nothing)
+
     writes : List (Loc × Content)
     writes = item_changes o items 0 (length items)
+
     whole_length : length items - 0 ≡ length items
     whole_length = omega arith
+
     whole : IsFrom 0 [] items
     whole = record { before = λ j lt. absurd (omega arith); beyond = λ j le. slice_get_past items j (omega arith) }
+
     law : (l : Loc) → o ≡ object_of l → content_in (λ _. cell.List items) l ≡ after ((loc.Shape o, Length (length items)) ∷ []) (after writes was) l
     law (loc.Name f n) e = sym (items_far o items 0 (length items) was (loc.Name f n) (λ j a b. refl))
     law (loc.Attr f n) e = sym (items_far o items 0 (length items) was (loc.Attr f n) (λ j a b. refl))

@@ -1,5 +1,5 @@
 -- What the making of an object changes of a state.
-use Rattle.std.proofs.Common.{◌≡◌, ◌≢◌, ℕ, zero, suc, ◌+◌, ◌<◌, Bool, true, false, cond, List, [], ◌∷◌, ◌++◌, length, refl, sym, ap, subst, ◌∙◌, arith, eq-eqb, eqb-true}
+use Rattle.std.proofs.Common.{◌≡◌, ◌≢◌, ℕ, Bool, true, false, cond, List, [], ◌∷◌, length, refl, sym, ap, subst, ◌∙◌, arith, eq-eqb, eqb-true}
 use Rattle.std.specs.Prelude.{IfOk, OnOk, Option, Some, None, Result, Ok, Err, ◌==◌, slice_get}
 use Rattle.std.specs.FinMap as fin
 use Rattle.std.specs.Ordering.{nat_cmp}
@@ -15,7 +15,7 @@ use Rattle.heap_objects.specs.Calls.{new_class, new_dict, new_frame, new_functio
 use Rattle.heap_objects.specs.Changes.{Keeps, Made, after, dict_change, list_change}
 use Rattle.heap_objects.specs.Entries.{with_all}
 use Rattle.heap_objects.specs.Names.{SlotList, new_slots, slot_names, slot_value}
-use Rattle.heap_objects.specs.State.{State, cell_at, cell_in, content, content_in, held, logged_all, made, next_object, object_at, object_in, object_of, slots_at, slots_in}
+use Rattle.heap_objects.specs.State.{State, cell_at, cell_in, content, content_in, held, logged_all, made, next_object, object_in, object_of, slots_at, slots_in}
 use Rattle.heap_objects.specs.declared.object.Cell.{Cell}
 use Rattle.heap_objects.specs.declared.object.Cell.TheVariants as cell
 use Rattle.heap_objects.specs.declared.object.Content.{Content}
@@ -47,6 +47,7 @@ wrote_made new c ws s of law = record {
   where
     node : Node
     node = record { object = new; cell = c }
+
     go : (l : Loc) (b : Bool) → ((object_of l).0 == length s.nodes) ≡ b
         → content_in (λ _. cond b c (cell_at s (object_of l))) l ≡ after ws (content_in (cell_at s)) l
     go l true e =

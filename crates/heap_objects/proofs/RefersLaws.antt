@@ -1,18 +1,15 @@
 -- References that name an object still name it where there are more objects.
-use Rattle.std.proofs.Common.{◌≡◌, ℕ, ◌<◌, ◌≤◌, Bool, true, false, cond, List, [], ◌∷◌, map, length, refl, sym, ap, subst, ◌∙◌, arith}
+use Rattle.std.proofs.Common.{◌≡◌, ℕ, ◌<◌, Bool, true, false, cond, List, [], ◌∷◌, map, length, refl, sym, ap, subst, ◌∙◌}
 use Rattle.std.specs.Prelude.{Option, Some, None, nat_lt, slice_get}
-use Rattle.std.specs.List.{All}
-use Rattle.std.proofs.lemmas.List.Elements.{All-weaker}
 use Rattle.std.proofs.lemmas.Bool.{lt-ltb}
 use Rattle.std.proofs.lemmas.Option.{slice_get_within}
 use Rattle.flow_base.specs.declared.numbers.ObjRef.{ObjRef}
 use Rattle.flow_base.specs.declared.numbers.Sym.{Sym}
 use Rattle.heap_objects.specs.Changes.{Keeps}
 use Rattle.heap_objects.specs.State.{State, object_at, object_in}
-use Rattle.heap_objects.specs.WellFormed.{IsClass, IsClassValue, IsClassValue_at, IsFixed, IsFrame, IsFunction, IsInstance, IsNoFrame, Refers, Refers_at, before}
+use Rattle.heap_objects.specs.WellFormed.{IsClass, IsClassValue, IsClassValue_at, IsFrame, IsFunction, IsInstance, IsNoFrame, Refers, Refers_at, before}
 use Rattle.heap_objects.specs.declared.object.Node.{Node}
 use Rattle.heap_objects.specs.declared.object.Object.{Object}
-use Rattle.heap_objects.specs.declared.object.Object.TheVariants as object
 use Rattle.heap_objects.specs.declared.value.Value.{Value, out-Value, roll-Value}
 use Rattle.heap_objects.specs.declared.value.Value.TheFolds.{every-Value, every_held-Value, every_here-Value, every_made-Value, ind-Value, map-Value}
 use Rattle.heap_objects.specs.declared.value.Value.TheOpen as v

@@ -1,5 +1,5 @@
 -- What keeps a state sound.
-use Rattle.std.proofs.Common.{◌≡◌, ℕ, zero, suc, ◌+◌, ◌<◌, Bool, true, false, cond, List, [], ◌∷◌, ◌++◌, length, map, take, set, refl, sym, ap, subst, ◌∙◌, ◌⊎◌, inl, inr, arith}
+use Rattle.std.proofs.Common.{◌≡◌, ℕ, zero, suc, ◌<◌, Bool, true, false, cond, List, [], ◌∷◌, ◌++◌, length, map, take, set, refl, sym, ap, subst, ◌∙◌, ◌⊎◌, inl, inr}
 use Rattle.std.specs.Prelude.{Option, Some, None, ◌==◌, slice_get}
 use Rattle.std.specs.FinMap as fin
 use Rattle.std.specs.List.{All}
@@ -111,19 +111,19 @@ cell_sound s o f safe h = go (kept_cell o f s safe.nothing safe.slots)
     go : Keeps s (with_cell o f s) → IsSound (with_cell o f s)
     go k = record {
       fixed = λ i n e. let w = was f s.nodes o.0 i n e in
-        subst (IsFixed (with_cell o f s) i) (sym w.object) (still_fixed s (with_cell o f s) i w.node.object k (h.fixed i w.node w.there));
+          subst (IsFixed (with_cell o f s) i) (sym w.object) (still_fixed s (with_cell o f s) i w.node.object k (h.fixed i w.node w.there));
       fits = λ i n e. let w = was f s.nodes o.0 i n e in
-        subst (λ (x : Object). Fits x n.cell) (sym w.object)
-        (elim w.cell [
-          | inl same ↦ subst (Fits w.node.object) (sym same) (h.fits i w.node w.there)
-          | inr new ↦ subst (Fits w.node.object) (sym new) (safe.fits w.node.object w.node.cell (h.fits i w.node w.there))
-        ]);
+          subst (λ (x : Object). Fits x n.cell) (sym w.object)
+          (elim w.cell [
+            | inl same ↦ subst (Fits w.node.object) (sym same) (h.fits i w.node w.there)
+            | inr new ↦ subst (Fits w.node.object) (sym new) (safe.fits w.node.object w.node.cell (h.fits i w.node w.there))
+          ]);
       held = λ i n e. let w = was f s.nodes o.0 i n e in
-        held_more s (with_cell o f s) n.cell k
-        (elim w.cell [
-          | inl same ↦ subst (Holds (Refers (object_at s))) (sym same) (h.held i w.node w.there)
-          | inr new ↦ subst (Holds (Refers (object_at s))) (sym new) (safe.held w.node.cell (h.held i w.node w.there))
-        ]);
+          held_more s (with_cell o f s) n.cell k
+          (elim w.cell [
+            | inl same ↦ subst (Holds (Refers (object_at s))) (sym same) (h.held i w.node w.there)
+            | inr new ↦ subst (Holds (Refers (object_at s))) (sym new) (safe.held w.node.cell (h.held i w.node w.there))
+          ]);
     }
 
 -- ---- writes
@@ -151,7 +151,7 @@ slot_either (s ∷ ss) n m v x e = go (s.0.0 == n.0) (s.0.0 == m.0) refl (λ lat
 
 held_slot : (P : Value → Type 0) (slots : SlotList) (n : Sym) (v : Option Value) → ((x : Value) → v ≡ Some x → P x) → ((m : Sym) (x : Value) → slot_value slots m ≡ Some x → P x)
     → (m : Sym) (x : Value) → slot_value (with_slot slots n v) m ≡ Some x → P x
-held_slot P slots n v p h m x e = elim (slot_either slots n m v x e) [ | inl new ↦ p x new | inr old ↦ h m x old ]
+held_slot P slots n v p h m x e = elim (slot_either slots n m v x e) [ inl new ↦ p x new | inr old ↦ h m x old ]
 
 global_fits : (o : Object) (a b : Names) → Fits o (cell.Global a) → Fits o (cell.Global b)
 global_fits (object.Frame None) a b h = h
@@ -318,7 +318,7 @@ pub pushed : (ns : List Node) (n : Node) (i : ℕ) (m : Node) → slice_get (ns 
 pushed [] n zero m e = inr (refl, same_some n m e)
 pushed [] n (suc i) m e = absurd (none_some m e)
 pushed (x ∷ xs) n zero m e = inl e
-pushed (x ∷ xs) n (suc i) m e = elim (pushed xs n i m e) [ | inl old ↦ inl old | inr new ↦ inr (ap suc new.0, new.1) ]
+pushed (x ∷ xs) n (suc i) m e = elim (pushed xs n i m e) [ inl old ↦ inl old | inr new ↦ inr (ap suc new.0, new.1) ]
 
 made_sound : (s : State) (o : Object) (c : Cell) → IsSound s → IsFixed s (length s.nodes) o → Fits o c → Holds (Refers (object_at s)) c → IsSound (made o c s)
 unfolding made
@@ -326,12 +326,13 @@ made_sound s o c h fixed fits held = go (kept_made o c s)
   where
     node : Node
     node = record { object = o; cell = c }
+
     go : Keeps s (made o c s) → IsSound (made o c s)
     go k = record {
       fixed = λ i n e. elim (pushed s.nodes node i n e) [
         | inl old ↦ still_fixed s (made o c s) i n.object k (h.fixed i n old)
         | inr new ↦ subst (λ (j : ℕ). IsFixed (made o c s) j n.object) (sym new.0)
-          (subst (λ (x : Node). IsFixed (made o c s) (length s.nodes) x.object) new.1 (still_fixed s (made o c s) (length s.nodes) o k fixed))
+            (subst (λ (x : Node). IsFixed (made o c s) (length s.nodes) x.object) new.1 (still_fixed s (made o c s) (length s.nodes) o k fixed))
       ];
       fits = λ i n e. elim (pushed s.nodes node i n e) [
         | inl old ↦ h.fits i n old
@@ -400,6 +401,7 @@ start_sound = record {
   where
     first : Node
     first = record { object = object.Frame None; cell = cell.Global fin.empty }
+
     only : (i : ℕ) (n : Node) → slice_get (first ∷ []) i ≡ Some n → (i ≡ 0) × (first ≡ n)
     only zero n e = (refl, same_some first n e)
     only (suc i) n e = absurd (none_some n e)

@@ -235,9 +235,11 @@ fn clears(heap: &mut Heap, d: ObjRef) -> Result<bool, NoMemory> {
 
 // The keys at the first two places.
 fn keys_by_place(heap: &Heap, d: ObjRef) -> Result<bool, NoMemory> {
-    Ok(is_int(key_if(heap, d, 0)?, 1)
-        && is_int(key_if(heap, d, 1)?, 2)
-        && key_if(heap, d, 2)?.is_none())
+    Ok(
+        is_int(key_if(heap, d, 0)?, 1)
+            && is_int(key_if(heap, d, 1)?, 2)
+            && key_if(heap, d, 2)?.is_none(),
+    )
 }
 
 fn key_if(heap: &Heap, d: ObjRef, i: usize) -> Result<Option<Value>, NoMemory> {
