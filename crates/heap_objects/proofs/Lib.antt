@@ -17,5 +17,6 @@ pub mod SoundLaws
 pub mod StampLaws
 pub mod StartLaws
 pub mod SymbolLaws
+pub mod ToldLaws
 pub mod ValueLaws
 pub mod WriteLaws

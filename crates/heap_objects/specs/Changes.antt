@@ -1,6 +1,8 @@
 -- What a call changes of a state, seen by locations.
 use Rattle.std.specs.Prelude.{◌≡◌, ◌==◌, ◌<◌, ◌≤◌, ◌+◌, ◌-◌, ℕ, zero, suc, Bool, true, false, List, [], ◌∷◌, ◌++◌, length, map, max, Some, slice_get, if◌then◌else◌}
 use Rattle.flow_base.specs.Same.{loc_eq}
+use Rattle.flow_base.specs.declared.event.Event.{Event}
+use Rattle.flow_base.specs.declared.event.Event.TheVariants as event
 use Rattle.flow_base.specs.declared.key.Key.{Key}
 use Rattle.flow_base.specs.declared.loc.Loc.{Loc}
 use Rattle.flow_base.specs.declared.loc.Loc.TheVariants as loc
@@ -19,6 +21,10 @@ abbrev pub after : List (Loc × Content) → (Loc → Content) → Loc → Conte
 after [] c l = c l
 after (w ∷ ws) c l = after ws (λ k. if loc_eq w.0 k then w.1 else c k) l
 
+-- the events that tell these writes
+abbrev pub told : List (Loc × Content) → List Event
+told ws = map (λ w. event.Write w.0) ws
+
 -- the second state has the objects of the first, and its locations hold what they held but for these writes
 pub record Wrote (ws : List (Loc × Content)) (s t : State) : Type 0 where
   pub objects : (o : ObjRef) → object_at t o ≡ object_at s o
@@ -32,6 +38,11 @@ spellings es = map (λ e. e.spelled) es
 abbrev pub put_change : ObjRef → Key → Value → Value → List Entry → Bool → List (Loc × Content)
 put_change d k spelled v es true = (loc.Item d k, holds.Held v) ∷ []
 put_change d k spelled v es false = (loc.Item d k, holds.Held v) ∷ (loc.Present d k, holds.Present) ∷ (loc.Shape d, holds.Keys (spellings es ++ spelled ∷ [])) ∷ []
+
+-- what a put reads before it writes
+abbrev pub put_reads : ObjRef → Key → Bool → List Event
+put_reads d k true = event.Place (loc.Present d k) ∷ []
+put_reads d k false = event.Place (loc.Present d k) ∷ event.Place (loc.Shape d) ∷ []
 
 -- what it writes where a key is taken out
 abbrev pub remove_change : ObjRef → Key → List Entry → List (Loc × Content)

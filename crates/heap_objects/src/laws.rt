@@ -1,15 +1,16 @@
 // What the definitions mean.
 ghost use Rattle.std.specs.List.{All};
-ghost use Rattle.std.specs.Prelude.{◌≡◌, ◌<◌, ◌≤◌, IsTrue, ℕ, List, [], ◌∷◌, Option, Some, length, map};
+ghost use Rattle.std.specs.Prelude.{◌≡◌, ◌<◌, ◌≤◌, IsTrue, ℕ, List, [], ◌∷◌, ◌++◌, Option, Some, length, map};
 ghost use Rattle.flow_base.specs.declared.event.Event.{Event};
+ghost use Rattle.flow_base.specs.declared.event.Event.TheVariants.{Place, Write};
 ghost use Rattle.flow_base.specs.declared.key.Key.{Key};
 ghost use Rattle.flow_base.specs.declared.loc.Loc.{Loc};
-ghost use Rattle.flow_base.specs.declared.loc.Loc.TheVariants.{Attr, Name};
+ghost use Rattle.flow_base.specs.declared.loc.Loc.TheVariants.{Attr, Name, Shape};
 ghost use Rattle.flow_base.specs.declared.numbers.CodeRef.{CodeRef};
 ghost use Rattle.flow_base.specs.declared.numbers.ObjRef.{ObjRef};
 ghost use Rattle.flow_base.specs.declared.numbers.Sym.{Sym};
-ghost use Rattle.heap_objects.specs.Calls.{dict_clear, dict_put, dict_remove, list_put, new_class, new_dict, new_frame, new_function, new_instance, new_list, put_at, spliced, spliced_items, stored};
-ghost use Rattle.heap_objects.specs.Changes.{Keeps, Made, Wrote, clear_change, dict_change, list_change, put_change, remove_change, splice_change};
+ghost use Rattle.heap_objects.specs.Calls.{clear_events, dict_clear, dict_put, dict_remove, entry_writes, item_writes, list_put, new_class, new_dict, new_frame, new_function, new_instance, new_list, put_at, put_events, remove_events, splice_events, spliced, spliced_items, stored};
+ghost use Rattle.heap_objects.specs.Changes.{Keeps, Made, Wrote, clear_change, dict_change, list_change, put_change, put_reads, remove_change, splice_change, told};
 ghost use Rattle.heap_objects.specs.Entries.{has_key, with_all};
 ghost use Rattle.heap_objects.specs.Keyed.{key_of};
 ghost use Rattle.heap_objects.specs.Nesting.{kept_nesting, nesting, tuple_of};
@@ -42,6 +43,19 @@ pub fn writes_law()
     ensures splice { (s : State) (o : ObjRef) (items : List Value) (i : ℕ) (tail : List Value) → cell_at s o ≡ cell.List items → i ≤ length items
         → Wrote (splice_change o i items (spliced_items items i tail)) s (spliced o i tail s) }
     ensures clear { (s : State) (d : ObjRef) (es : List Entry) → cell_at s d ≡ cell.Dict es → Wrote (clear_change d es) s (dict_clear d s) }
+{}
+
+/// Those calls tell what they write by their events, in the same order: a splice and a clear by these alone, and a put and a
+/// removal read places first.
+pub fn events_law()
+    ensures splice { (o : ObjRef) (items : List Value) (i : ℕ) (tail : List Value)
+        → splice_events o i tail (cell.List items) ≡ told (splice_change o i items (spliced_items items i tail)) }
+    ensures put { (d : ObjRef) (k : Key) (spelled v : Value) (es : List Entry)
+        → put_events d k (cell.Dict es) ≡ put_reads d k (has_key es k) ++ told (put_change d k spelled v es (has_key es k)) }
+    ensures remove { (d : ObjRef) (k : Key) (es : List Entry) → remove_events d k (cell.Dict es) ≡ Place (Shape d) ∷ told (remove_change d k es) }
+    ensures clear { (d : ObjRef) (es : List Entry) → clear_events d (cell.Dict es) ≡ told (clear_change d es) }
+    ensures list { (o : ObjRef) (items : List Value) → item_writes o 0 (length items) ++ Write (Shape o) ∷ [] ≡ told (list_change o items) }
+    ensures dict { (d : ObjRef) (es : List Entry) → entry_writes d es ≡ told (dict_change d es) }
 {}
 
 /// A new object is the next one, which has slots of the names that are given if it is a frame, and no other object changes. A

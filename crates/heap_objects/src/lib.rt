@@ -22,7 +22,7 @@ mod value;
 
 pub use heap::Heap;
 pub use keyed::key_of;
-pub use laws::{formed_law, keeps_law, makes_law, sound_law, values_law, writes_law};
+pub use laws::{events_law, formed_law, keeps_law, makes_law, sound_law, values_law, writes_law};
 pub use object::{Content, Object};
 pub use storing::Syms;
 pub use value::{NESTING_LIMIT, Value, Values};

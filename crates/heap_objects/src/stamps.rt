@@ -1,6 +1,6 @@
 // The stamps of rows, found by the numbers of their keys.
 ghost use Rattle.std.specs.Prelude.{◌≡◌, ◌≢◌, ◌<◌, ◌++◌, ◌∷◌, [], ℕ, true, OnOk, OnErr, length, ◌==◌, if◌then◌else◌};
-ghost use Rattle.heap_objects.specs.Stamps.{has_stamp, stamps_at};
+ghost use Rattle.heap_objects.specs.Stamps.{has_stamp, stamps_at, without_first};
 
 use flow_base::NoMemory;
 use indexmap::IndexMap;
@@ -51,7 +51,7 @@ impl Stamps {
     }
 
     fn remove(&mut self, stamp: u64)
-        ensures { (t : ℕ) → t ≢ stamp → has_stamp self.new t ≡ has_stamp self.old t }
+        ensures { self.new ≡ without_first self.old stamp }
     {
         for i in 0..self.list.len() {
             if self.list[i] == stamp {
@@ -62,7 +62,7 @@ impl Stamps {
     }
 }
 
-/// Stamps that are listed under numbers. A stamp that was taken out may be listed still.
+/// Stamps that are listed under numbers.
 #[derive(Drop)]
 pub struct Index {
     alloc: Global,
@@ -70,7 +70,9 @@ pub struct Index {
 }
 
 impl Index {
-    pub fn new(alloc: Global) -> Index {
+    pub fn new(alloc: Global) -> Index
+        ensures { (n : ℕ) → stamps_at result.listed n ≡ [] }
+    {
         Index {
             alloc,
             listed: IndexMap::new(alloc),
@@ -95,10 +97,12 @@ impl Index {
         list_at(self.alloc, &mut self.listed, number, stamp)
     }
 
-    /// Takes a stamp out of those under a number. Takes no memory.
+    /// Takes the first of this stamp out of those under a number. Takes no memory.
     pub fn unlist(&mut self, number: u64, stamp: u64)
-        ensures { (n t : ℕ) → t ≢ stamp → has_stamp (stamps_at self.old.listed n) t ≡ true
+        ensures kept { (n t : ℕ) → t ≢ stamp → has_stamp (stamps_at self.old.listed n) t ≡ true
             → has_stamp (stamps_at self.new.listed n) t ≡ true }
+        ensures exact { (n : ℕ) → stamps_at self.new.listed n
+            ≡ (if n == number then without_first (stamps_at self.old.listed n) stamp else stamps_at self.old.listed n) }
     {
         unlist_at(&mut self.listed, number, stamp);
     }
@@ -124,7 +128,8 @@ fn list_at(
 }
 
 fn unlist_at(listed: &mut IndexMap<u64, Stamps>, number: u64, stamp: u64)
-    ensures { (n t : ℕ) → t ≢ stamp → has_stamp (stamps_at listed.new n) t ≡ has_stamp (stamps_at listed.old n) t }
+    ensures { (n : ℕ) → stamps_at listed.new n
+        ≡ (if n == number then without_first (stamps_at listed.old n) stamp else stamps_at listed.old n) }
 {
     if let Some(stamps) = listed.get_mut(&number) {
         stamps.remove(stamp);

@@ -13,7 +13,7 @@ use Rattle.heap_objects.proofs.dict.Dict.remove.Goals as goal
 pub invariant_of-self : goal.invariant_of-self
 invariant_of-self c =
     let d = c.self.inside in
-    is_dict-removed d.index.listed d.next d.tree c.self.invariant c.unlist.new.self.listed c.remove.new.self c.in-Some.stamp c.remove.ensures.tree c.remove.ensures.rows c.unlist.ensures
+    is_dict-removed d.index.listed d.next d.tree c.self.invariant c.unlist.new.self.listed c.remove.new.self c.in-Some.stamp c.remove.ensures.tree c.remove.ensures.rows c.unlist.ensures.kept
 
 pub returns-in-Some : goal.returns-in-Some
 returns-in-Some c =
