@@ -1,0 +1,10 @@
+pub mod Gives
+pub mod Views
+pub mod Full
+pub mod Waiting
+pub mod States
+pub mod Joined
+pub mod Parts
+pub mod Form
+pub mod Numbers
+pub mod Answer
