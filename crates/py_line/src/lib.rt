@@ -24,3 +24,6 @@ mod words;
 
 pub use form::LineForm;
 pub use line::{LineFault, parse_line, parse_line_from};
+
+#[cfg(test)]
+mod tests;
