@@ -1,5 +1,5 @@
 -- The plain lines that the program's own lines stand for, and the numbers of their nodes.
-use Rattle.std.specs.Prelude.{◌≡◌, ℕ, length, List, ◌∷◌, ◌++◌, map, Option, option_map}
+use Rattle.std.specs.Prelude.{◌≡◌, ℕ, ◌+◌, length, List, ◌∷◌, ◌++◌, map, Option, option_map}
 use Rattle.py_ast.specs.Tree.{Tree, Trees}
 use Rattle.py_ast.specs.View.{view, views}
 use Rattle.py_ast.specs.Statement as s
@@ -12,6 +12,7 @@ use Rattle.py_grammar.specs.Line.{Line, Header, simples, header}
 use Rattle.py_line.specs.Numbers.{size, size_of_all, size_of_line, size_of_maybe, size_of_statement, size_of_statements}
 use Rattle.py_line.specs.declared.form.LineForm.{LineForm}
 use Rattle.py_line.specs.declared.form.LineForm.TheVariants as f
+use Rattle.py_line.specs.declared.line.LineRead.{LineRead}
 use Rattle.py_line.specs.declared.raw.RawSimple.{RawSimple}
 use Rattle.py_line.specs.declared.raw.RawSimple.TheVariants as q
 use Rattle.py_line.specs.declared.raw.RawHeader.{RawHeader}
@@ -81,9 +82,10 @@ pub record NumberedStatements (first : ℕ) (ss : List Statement) (xs : List Stm
   pub same : statements_of xs ≡ ss
   pub in_order : numbers (nodes_of_block xs) ≡ count_from first (size_of_statements ss)
 
-pub record NumberedLine (first : ℕ) (line : Line) (form : LineForm) : Type 0 where
-  pub same : line_of form ≡ line
-  pub in_order : numbers_of_form form ≡ count_from first (size_of_line line)
+pub record NumberedLine (first : ℕ) (line : Line) (read : LineRead) : Type 0 where
+  pub same : line_of read.form ≡ line
+  pub in_order : numbers_of_form read.form ≡ count_from first (size_of_line line)
+  pub follows : read.next ≡ first + size_of_line line
 
 -- ---- lines that have no numbers yet
 

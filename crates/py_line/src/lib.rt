@@ -23,7 +23,7 @@ mod targets;
 mod words;
 
 pub use form::LineForm;
-pub use line::{LineFault, parse_line, parse_line_from};
+pub use line::{LineFault, LineRead, parse_line, parse_line_from};
 
 #[cfg(test)]
 mod tests;

@@ -2,7 +2,7 @@
 ghost use Rattle.std.specs.Prelude.{◌≡◌, ◌<◌, ◌+◌, ◌-◌, ◌^◌, Some, length};
 ghost use Rattle.py_grammar.specs.LineReading.{read_line};
 ghost use Rattle.py_lexer.specs.Span.{AreSpans};
-ghost use Rattle.py_line.specs.Answer.{IsAnswer, IsLineOf};
+ghost use Rattle.py_line.specs.Answer.{IsAnswer, IsAnswerFrom, IsLineOf};
 ghost use Rattle.py_line.specs.Form.{raw_line_of};
 
 use crate::fault::ReadFault;
@@ -38,6 +38,13 @@ impl From<NoMemory> for LineFault {
     }
 }
 
+/// A line with its nodes numbered, and the number that follows theirs.
+#[derive(Drop)]
+pub struct LineRead {
+    pub form: LineForm,
+    pub next: u64,
+}
+
 /// The line that the tokens of one logical line spell (the grammar is in `py_grammar`), with its nodes numbered from 1. A fault is told in
 /// the order Unsupported, Limit, NotALine, each exactly where it is one.
 pub fn parse_line(alloc: Global, text: &PyText, tokens: &[Token]) -> Result<LineForm, LineFault>
@@ -45,20 +52,23 @@ pub fn parse_line(alloc: Global, text: &PyText, tokens: &[Token]) -> Result<Line
     requires spans { AreSpans text.now 0 tokens.now }
     ensures { IsAnswer text.now tokens.now 1 result }
 {
-    parse_line_from(alloc, text, tokens, 1)
+    match parse_line_from(alloc, text, tokens, 1) {
+        Ok(read) => Ok(read.form),
+        Err(fault) => Err(fault),
+    }
 }
 
-/// The same, with the nodes numbered from `first` on.
+/// The same, with the nodes numbered from `first` on, and the number that follows theirs.
 #[tactic(auto, using(crate::proofs::Answering::plain_answer))]
 pub fn parse_line_from(
     alloc: Global,
     text: &PyText,
     tokens: &[Token],
     first: u32,
-) -> Result<LineForm, LineFault>
+) -> Result<LineRead, LineFault>
     requires fits { first + length tokens.now < 2 ^ 32 }
     requires spans { AreSpans text.now 0 tokens.now }
-    ensures { IsAnswer text.now tokens.now first result }
+    ensures { IsAnswerFrom text.now tokens.now first result }
 {
     if has_unsupported(tokens) {
         return Err(LineFault::Unsupported);
@@ -74,15 +84,15 @@ pub fn parse_line_from(
 }
 
 #[tactic(auto, using(crate::proofs::Answering::too_deep, crate::proofs::Answering::no_line))]
-fn of_signs(alloc: Global, signs: &[Sign], first: u32) -> Result<LineForm, LineFault>
+fn of_signs(alloc: Global, signs: &[Sign], first: u32) -> Result<LineRead, LineFault>
     requires { first + length signs.now < 2 ^ 32 }
     ensures { IsLineOf signs.now first result }
 {
     match read(alloc, signs) {
         Ok(Some(raw)) => {
-            let form = numbered(alloc, signs, &raw, first);
+            let read = numbered(alloc, signs, &raw, first);
             drop(raw);
-            form
+            read
         }
         Ok(None) => Err(LineFault::Limit),
         Err(ReadFault::NoLine) => Err(LineFault::NotALine),
@@ -91,7 +101,7 @@ fn of_signs(alloc: Global, signs: &[Sign], first: u32) -> Result<LineForm, LineF
 }
 
 #[tactic(auto, using(crate::proofs::Answering::nodes_fit, crate::proofs::Answering::a_line))]
-fn numbered(alloc: Global, signs: &[Sign], raw: &RawLine, first: u32) -> Result<LineForm, LineFault>
+fn numbered(alloc: Global, signs: &[Sign], raw: &RawLine, first: u32) -> Result<LineRead, LineFault>
     requires fits { first + length signs.now < 2 ^ 32 }
     requires read { read_line 60 signs.now ≡ Some (Some (raw_line_of raw.now)) }
     ensures { IsLineOf signs.now first result }

@@ -1,11 +1,12 @@
 // Numbers for the nodes of a line, in the order in which they begin in the text, a parent before its parts.
-ghost use Rattle.std.specs.Prelude.{◌≡◌, ◌+◌, ◌≤◌, ◌^◌, length, option_map, IfOk};
+ghost use Rattle.std.specs.Prelude.{◌≡◌, ◌+◌, ◌≤◌, ◌^◌, option_map, IfOk};
 ghost use Rattle.py_ast.specs.View.{view, views};
 ghost use Rattle.py_grammar.specs.Line as plain;
-ghost use Rattle.py_line.specs.Form.{IsNumberedFrom, Numbered, NumberedAll, NumberedLine, NumberedMaybe, NumberedStatement, NumberedStatements, line_of, numbers_of_form, raw_header_of, raw_line_of, raw_simple_of, raw_simples_of};
+ghost use Rattle.py_line.specs.Form.{Numbered, NumberedAll, NumberedLine, NumberedMaybe, NumberedStatement, NumberedStatements, raw_header_of, raw_line_of, raw_simple_of, raw_simples_of};
 ghost use Rattle.py_line.specs.Numbers.{size, size_of_all, size_of_line, size_of_maybe, size_of_statement, size_of_statements};
 
 use crate::form::LineForm;
+use crate::line::LineRead;
 use crate::raw::{RawHeader, RawLine, RawSimple};
 use flow_base::{Held, NoMemory, PyText, Shared};
 use py_ast::{Expr, Exprs, Stmt, Texts};
@@ -211,10 +212,14 @@ fn numbered_simple(alloc: Global, s: &RawSimple, next: u64) -> Result<(Stmt, u64
     }
 }
 
-// No nodes of a line follow its simple statements, so the number after the last is left out.
-fn numbered_simples(alloc: Global, all: &[RawSimple], next: u64) -> Result<Vec<Stmt>, NoMemory>
+fn numbered_simples(
+    alloc: Global,
+    all: &[RawSimple],
+    next: u64,
+) -> Result<(Vec<Stmt>, u64), NoMemory>
     requires { next + size_of_statements (raw_simples_of all.now) ≤ 2 ^ 32 }
-    ensures { IfOk result (λ xs. NumberedStatements next (raw_simples_of all.now) xs.items) }
+    ensures is { IfOk result (λ x. NumberedStatements next (raw_simples_of all.now) x.0.items) }
+    ensures after { IfOk result (λ x. x.1 ≡ next + size_of_statements (raw_simples_of all.now)) }
 {
     let mut done = Vec::new(alloc);
     let mut at = next;
@@ -223,7 +228,7 @@ fn numbered_simples(alloc: Global, all: &[RawSimple], next: u64) -> Result<Vec<S
         done.push(one)?;
         at = after;
     }
-    Ok(done)
+    Ok((done, at))
 }
 
 // Each of these answers a line whose header has one form, with the numbers from `first` on.
@@ -233,14 +238,17 @@ fn numbered_if(
     test: &Expr,
     body: &[RawSimple],
     first: u64,
-) -> Result<LineForm, NoMemory>
+) -> Result<LineRead, NoMemory>
     requires { first + size_of_line (plain.header (plain.if (view test.now)) (raw_simples_of body.now)) ≤ 2 ^ 32 }
-    ensures { IfOk result (λ form. NumberedLine first (plain.header (plain.if (view test.now)) (raw_simples_of body.now)) form) }
+    ensures { IfOk result (λ read. NumberedLine first (plain.header (plain.if (view test.now)) (raw_simples_of body.now)) read) }
 {
     let node = first as u32;
     let (test, next) = numbered(alloc, test, first + 1)?;
-    let body = numbered_simples(alloc, body, next)?;
-    Ok(LineForm::If(node, test, body))
+    let (body, after) = numbered_simples(alloc, body, next)?;
+    Ok(LineRead {
+        form: LineForm::If(node, test, body),
+        next: after,
+    })
 }
 
 fn numbered_elif(
@@ -248,21 +256,27 @@ fn numbered_elif(
     test: &Expr,
     body: &[RawSimple],
     first: u64,
-) -> Result<LineForm, NoMemory>
+) -> Result<LineRead, NoMemory>
     requires { first + size_of_line (plain.header (plain.elif (view test.now)) (raw_simples_of body.now)) ≤ 2 ^ 32 }
-    ensures { IfOk result (λ form. NumberedLine first (plain.header (plain.elif (view test.now)) (raw_simples_of body.now)) form) }
+    ensures { IfOk result (λ read. NumberedLine first (plain.header (plain.elif (view test.now)) (raw_simples_of body.now)) read) }
 {
     let (test, next) = numbered(alloc, test, first)?;
-    let body = numbered_simples(alloc, body, next)?;
-    Ok(LineForm::Elif(test, body))
+    let (body, after) = numbered_simples(alloc, body, next)?;
+    Ok(LineRead {
+        form: LineForm::Elif(test, body),
+        next: after,
+    })
 }
 
-fn numbered_else(alloc: Global, body: &[RawSimple], first: u64) -> Result<LineForm, NoMemory>
+fn numbered_else(alloc: Global, body: &[RawSimple], first: u64) -> Result<LineRead, NoMemory>
     requires { first + size_of_line (plain.header plain.else (raw_simples_of body.now)) ≤ 2 ^ 32 }
-    ensures { IfOk result (λ form. NumberedLine first (plain.header plain.else (raw_simples_of body.now)) form) }
+    ensures { IfOk result (λ read. NumberedLine first (plain.header plain.else (raw_simples_of body.now)) read) }
 {
-    let body = numbered_simples(alloc, body, first)?;
-    Ok(LineForm::Else(body))
+    let (body, after) = numbered_simples(alloc, body, first)?;
+    Ok(LineRead {
+        form: LineForm::Else(body),
+        next: after,
+    })
 }
 
 fn numbered_while(
@@ -270,14 +284,17 @@ fn numbered_while(
     test: &Expr,
     body: &[RawSimple],
     first: u64,
-) -> Result<LineForm, NoMemory>
+) -> Result<LineRead, NoMemory>
     requires { first + size_of_line (plain.header (plain.while (view test.now)) (raw_simples_of body.now)) ≤ 2 ^ 32 }
-    ensures { IfOk result (λ form. NumberedLine first (plain.header (plain.while (view test.now)) (raw_simples_of body.now)) form) }
+    ensures { IfOk result (λ read. NumberedLine first (plain.header (plain.while (view test.now)) (raw_simples_of body.now)) read) }
 {
     let node = first as u32;
     let (test, next) = numbered(alloc, test, first + 1)?;
-    let body = numbered_simples(alloc, body, next)?;
-    Ok(LineForm::While(node, test, body))
+    let (body, after) = numbered_simples(alloc, body, next)?;
+    Ok(LineRead {
+        form: LineForm::While(node, test, body),
+        next: after,
+    })
 }
 
 fn numbered_for(
@@ -286,32 +303,41 @@ fn numbered_for(
     e: &Expr,
     body: &[RawSimple],
     first: u64,
-) -> Result<LineForm, NoMemory>
+) -> Result<LineRead, NoMemory>
     requires { first + size_of_line (plain.header (plain.for (view target.now) (view e.now)) (raw_simples_of body.now)) ≤ 2 ^ 32 }
-    ensures { IfOk result (λ form. NumberedLine first (plain.header (plain.for (view target.now) (view e.now)) (raw_simples_of body.now)) form) }
+    ensures { IfOk result (λ read. NumberedLine first (plain.header (plain.for (view target.now) (view e.now)) (raw_simples_of body.now)) read) }
 {
     let node = first as u32;
     let (target, next) = numbered(alloc, target, first + 1)?;
     let (e, next) = numbered(alloc, e, next)?;
-    let body = numbered_simples(alloc, body, next)?;
-    Ok(LineForm::For(node, target, e, body))
+    let (body, after) = numbered_simples(alloc, body, next)?;
+    Ok(LineRead {
+        form: LineForm::For(node, target, e, body),
+        next: after,
+    })
 }
 
-fn numbered_try(alloc: Global, body: &[RawSimple], first: u64) -> Result<LineForm, NoMemory>
+fn numbered_try(alloc: Global, body: &[RawSimple], first: u64) -> Result<LineRead, NoMemory>
     requires { first + size_of_line (plain.header plain.try (raw_simples_of body.now)) ≤ 2 ^ 32 }
-    ensures { IfOk result (λ form. NumberedLine first (plain.header plain.try (raw_simples_of body.now)) form) }
+    ensures { IfOk result (λ read. NumberedLine first (plain.header plain.try (raw_simples_of body.now)) read) }
 {
     let node = first as u32;
-    let body = numbered_simples(alloc, body, first + 1)?;
-    Ok(LineForm::Try(node, body))
+    let (body, after) = numbered_simples(alloc, body, first + 1)?;
+    Ok(LineRead {
+        form: LineForm::Try(node, body),
+        next: after,
+    })
 }
 
-fn numbered_finally(alloc: Global, body: &[RawSimple], first: u64) -> Result<LineForm, NoMemory>
+fn numbered_finally(alloc: Global, body: &[RawSimple], first: u64) -> Result<LineRead, NoMemory>
     requires { first + size_of_line (plain.header plain.finally (raw_simples_of body.now)) ≤ 2 ^ 32 }
-    ensures { IfOk result (λ form. NumberedLine first (plain.header plain.finally (raw_simples_of body.now)) form) }
+    ensures { IfOk result (λ read. NumberedLine first (plain.header plain.finally (raw_simples_of body.now)) read) }
 {
-    let body = numbered_simples(alloc, body, first)?;
-    Ok(LineForm::Finally(body))
+    let (body, after) = numbered_simples(alloc, body, first)?;
+    Ok(LineRead {
+        form: LineForm::Finally(body),
+        next: after,
+    })
 }
 
 fn numbered_except(
@@ -320,15 +346,18 @@ fn numbered_except(
     name: &Option<PyText>,
     body: &[RawSimple],
     first: u64,
-) -> Result<LineForm, NoMemory>
+) -> Result<LineRead, NoMemory>
     requires { first + size_of_line (plain.header (plain.except (option_map view class.now) name.now) (raw_simples_of body.now)) ≤ 2 ^ 32 }
-    ensures { IfOk result (λ form. NumberedLine first (plain.header (plain.except (option_map view class.now) name.now) (raw_simples_of body.now)) form) }
+    ensures { IfOk result (λ read. NumberedLine first (plain.header (plain.except (option_map view class.now) name.now) (raw_simples_of body.now)) read) }
 {
     let node = first as u32;
     let (class, next) = numbered_maybe(alloc, class, first + 1)?;
     let name = copied_maybe(name)?;
-    let body = numbered_simples(alloc, body, next)?;
-    Ok(LineForm::Except(node, class, name, body))
+    let (body, after) = numbered_simples(alloc, body, next)?;
+    Ok(LineRead {
+        form: LineForm::Except(node, class, name, body),
+        next: after,
+    })
 }
 
 fn numbered_def(
@@ -338,16 +367,19 @@ fn numbered_def(
     defaults: &[Expr],
     body: &[RawSimple],
     first: u64,
-) -> Result<LineForm, NoMemory>
+) -> Result<LineRead, NoMemory>
     requires { first + size_of_line (plain.header (plain.define name.now names.now (views defaults.now)) (raw_simples_of body.now)) ≤ 2 ^ 32 }
-    ensures { IfOk result (λ form. NumberedLine first (plain.header (plain.define name.now names.now (views defaults.now)) (raw_simples_of body.now)) form) }
+    ensures { IfOk result (λ read. NumberedLine first (plain.header (plain.define name.now names.now (views defaults.now)) (raw_simples_of body.now)) read) }
 {
     let node = first as u32;
     let name = name.copy()?;
     let names = copied(alloc, names)?;
     let (defaults, next) = numbered_all(alloc, defaults, first + 1)?;
-    let body = numbered_simples(alloc, body, next)?;
-    Ok(LineForm::Def(node, name, names, defaults, body))
+    let (body, after) = numbered_simples(alloc, body, next)?;
+    Ok(LineRead {
+        form: LineForm::Def(node, name, names, defaults, body),
+        next: after,
+    })
 }
 
 fn numbered_class(
@@ -356,15 +388,18 @@ fn numbered_class(
     base: &Option<Expr>,
     body: &[RawSimple],
     first: u64,
-) -> Result<LineForm, NoMemory>
+) -> Result<LineRead, NoMemory>
     requires { first + size_of_line (plain.header (plain.class name.now (option_map view base.now)) (raw_simples_of body.now)) ≤ 2 ^ 32 }
-    ensures { IfOk result (λ form. NumberedLine first (plain.header (plain.class name.now (option_map view base.now)) (raw_simples_of body.now)) form) }
+    ensures { IfOk result (λ read. NumberedLine first (plain.header (plain.class name.now (option_map view base.now)) (raw_simples_of body.now)) read) }
 {
     let node = first as u32;
     let name = name.copy()?;
     let (base, next) = numbered_maybe(alloc, base, first + 1)?;
-    let body = numbered_simples(alloc, body, next)?;
-    Ok(LineForm::Class(node, name, base, body))
+    let (body, after) = numbered_simples(alloc, body, next)?;
+    Ok(LineRead {
+        form: LineForm::Class(node, name, base, body),
+        next: after,
+    })
 }
 
 fn numbered_header(
@@ -372,9 +407,9 @@ fn numbered_header(
     head: &RawHeader,
     body: &[RawSimple],
     first: u64,
-) -> Result<LineForm, NoMemory>
+) -> Result<LineRead, NoMemory>
     requires { first + size_of_line (plain.header (raw_header_of head.now) (raw_simples_of body.now)) ≤ 2 ^ 32 }
-    ensures { IfOk result (λ form. NumberedLine first (plain.header (raw_header_of head.now) (raw_simples_of body.now)) form) }
+    ensures { IfOk result (λ read. NumberedLine first (plain.header (raw_header_of head.now) (raw_simples_of body.now)) read) }
 {
     match head {
         RawHeader::If(test) => numbered_if(alloc, test, body, first),
@@ -397,24 +432,27 @@ fn numbered_header(
     }
 }
 
-fn numbered_raw(alloc: Global, raw: &RawLine, first: u64) -> Result<LineForm, NoMemory>
+fn numbered_raw(alloc: Global, raw: &RawLine, first: u64) -> Result<LineRead, NoMemory>
     requires { first + size_of_line (raw_line_of raw.now) ≤ 2 ^ 32 }
-    ensures { IfOk result (λ form. NumberedLine first (raw_line_of raw.now) form) }
+    ensures { IfOk result (λ read. NumberedLine first (raw_line_of raw.now) read) }
 {
     match raw {
         RawLine::Simples(all) => {
-            Ok(LineForm::Simples(numbered_simples(alloc, all.as_slice(), first)?))
+            let (all, after) = numbered_simples(alloc, all.as_slice(), first)?;
+            Ok(LineRead {
+                form: LineForm::Simples(all),
+                next: after,
+            })
         }
         RawLine::Header(head, body) => numbered_header(alloc, head, body.as_slice(), first),
     }
 }
 
-/// The line with its nodes numbered from `first` on, in the order in which they begin in the text, a parent before its parts.
-pub(crate) fn numbered_line(alloc: Global, raw: &RawLine, first: u32) -> Result<LineForm, NoMemory>
+/// The line with its nodes numbered from `first` on, in the order in which they begin in the text, a parent before its parts, and the number
+/// that follows theirs.
+pub(crate) fn numbered_line(alloc: Global, raw: &RawLine, first: u32) -> Result<LineRead, NoMemory>
     requires { first + size_of_line (raw_line_of raw.now) ≤ 2 ^ 32 }
-    ensures line { IfOk result (λ form. line_of form ≡ raw_line_of raw.now) }
-    ensures in_order { IfOk result (λ form. IsNumberedFrom first form) }
-    ensures size { IfOk result (λ form. length (numbers_of_form form) ≡ size_of_line (raw_line_of raw.now)) }
+    ensures { IfOk result (λ read. NumberedLine first (raw_line_of raw.now) read) }
 {
     numbered_raw(alloc, raw, first as u64)
 }

@@ -8,4 +8,4 @@ numbered_line-requires c = nodes_fit c.args.first c.args.signs.now (raw_line_of 
 pub returns : goal.returns
 returns c =
     a_line c.args.first c.args.signs.now (raw_line_of c.args.raw.now) c.in_ok-numbered_line.field-0 c.requires.read
-    c.in_ok-numbered_line.ensures.line c.in_ok-numbered_line.ensures.in_order
+    c.in_ok-numbered_line.ensures

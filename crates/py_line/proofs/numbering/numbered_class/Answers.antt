@@ -1,4 +1,4 @@
-use Rattle.std.proofs.Common.{option_map, ap, ◌∙◌}
+use Rattle.std.proofs.Common.{option_map, ap, ◌∙◌, arith}
 use Rattle.py_ast.specs.View.{view}
 use Rattle.py_ast.specs.Nodes.{nodes_of_maybe}
 use Rattle.py_grammar.specs.Line as plain
@@ -12,6 +12,7 @@ returns c =
     let ss = raw_simples_of c.args.body.now in
     let xs = c.in_ok-body.body.items in
     record {
-      same = same_line (plain.class c.in_ok-name.name (option_map view c.in_ok-base.base)) (plain.class c.args.name.now (option_map view c.args.base.now)) (statements_of xs) ss (ap (λ z. plain.class z (option_map view c.in_ok-base.base)) c.in_ok-name.ensures ∙ ap (plain.class c.args.name.now) c.in_ok-base.ensures.is.same) c.in_ok-body.ensures.same;
-      in_order = node_with_body c.args.first c.in_ok-base.next (size_of_maybe (option_map view c.args.base.now)) (nodes_of_maybe c.in_ok-base.base) ss xs c.in_ok-base.ensures.is.in_order c.in_ok-base.ensures.after c.in_ok-body.ensures;
+      same = same_line (plain.class c.in_ok-name.name (option_map view c.in_ok-base.base)) (plain.class c.args.name.now (option_map view c.args.base.now)) (statements_of xs) ss (ap (λ z. plain.class z (option_map view c.in_ok-base.base)) c.in_ok-name.ensures ∙ ap (plain.class c.args.name.now) c.in_ok-base.ensures.is.same) c.in_ok-body.ensures.is.same;
+      in_order = node_with_body c.args.first c.in_ok-base.next (size_of_maybe (option_map view c.args.base.now)) (nodes_of_maybe c.in_ok-base.base) ss xs c.in_ok-base.ensures.is.in_order c.in_ok-base.ensures.after c.in_ok-body.ensures.is;
+      follows = let f0 = c.in_ok-base.ensures.after in let g = c.in_ok-body.ensures.after in omega arith;
     }

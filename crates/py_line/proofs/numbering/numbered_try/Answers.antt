@@ -1,4 +1,4 @@
-use Rattle.std.proofs.Common.{◌+◌, refl}
+use Rattle.std.proofs.Common.{◌+◌, refl, arith}
 use Rattle.py_ast.specs.Nodes.{nodes_of_block}
 use Rattle.py_grammar.specs.Line as plain
 use Rattle.py_line.specs.Numbers.{size_of_statements}
@@ -11,6 +11,7 @@ returns c =
     let ss = raw_simples_of c.args.body.now in
     let xs = c.in_ok-body.body.items in
     record {
-      same = same_line plain.try plain.try (statements_of xs) ss refl c.in_ok-body.ensures.same;
-      in_order = headed c.args.first (size_of_statements ss) (1 + size_of_statements ss) (nodes_of_block xs) c.in_ok-body.ensures.in_order refl;
+      same = same_line plain.try plain.try (statements_of xs) ss refl c.in_ok-body.ensures.is.same;
+      in_order = headed c.args.first (size_of_statements ss) (1 + size_of_statements ss) (nodes_of_block xs) c.in_ok-body.ensures.is.in_order refl;
+      follows = let g = c.in_ok-body.ensures.after in omega arith;
     }
