@@ -19,11 +19,14 @@ use Rattle.py_line.proofs.Sizes.{line_fits}
 
 pub plain_answer : (text : List ℕ) (tokens : List Token) (first : ℕ) (answer : Result LineRead LineFault) → IsPlain text tokens
     → IsLineOf (signs_of text tokens) first answer → IsAnswerFrom text tokens first answer
-plain_answer text tokens first (Ok read) p a = ((p, a.0, a.1, in_order first (size_of_line (line_of read.form)) read.form a.2.in_order), record {
-  in_order = a.2.in_order;
-  follows = a.2.follows;
-  few = let fits = line_fits a.0 in let e : length (signs_of text tokens) ≡ length tokens = length-map tokens (sign_of_token text) in omega arith;
-})
+plain_answer text tokens first (Ok read) p a = (
+  (p, a.0, a.1, in_order first (size_of_line (line_of read.form)) read.form a.2.in_order),
+  record {
+    in_order = a.2.in_order;
+    follows = a.2.follows;
+    few = let fits = line_fits a.0 in let e : length (signs_of text tokens) ≡ length tokens = length-map tokens (sign_of_token text) in omega arith;
+  },
+)
 plain_answer text tokens first (Err Unsupported) p a = absurd a
 plain_answer text tokens first (Err Limit) p a = (p.supported, depth a.1 a.2)
 plain_answer text tokens first (Err NotALine) p a = (p, a)

@@ -24,6 +24,3 @@ mod words;
 
 pub use form::LineForm;
 pub use line::{LineFault, LineRead, parse_line, parse_line_from};
-
-#[cfg(test)]
-mod tests;
