@@ -1,0 +1,5 @@
+pub mod Runs
+pub mod SameExpr
+pub mod SameStmt
+pub mod Back
+pub mod InOrder
