@@ -107,19 +107,19 @@ is_parsed text = lexed_parsed text (lexed (with_line_ends text)) (lexed_is (with
 
 -- ---- exact
 
-lexed_ok : (text : List ℕ) (tokens : List Token) → AreTokens text tokens → (r : Result (List Token) ℕ) → IsLexed text r → r ≡ Ok tokens
+pub lexed_ok : (text : List ℕ) (tokens : List Token) → AreTokens text tokens → (r : Result (List Token) ℕ) → IsLexed text r → r ≡ Ok tokens
 lexed_ok text tokens t (Ok others) h = ap Ok (cutting.one_list text others tokens h t)
 lexed_ok text tokens t (Err n) h = absurd (cutting.not_both text tokens n t h)
 
-lexed_err : (text : List ℕ) (n : ℕ) → lexer.Stops text n → (r : Result (List Token) ℕ) → IsLexed text r → r ≡ Err n
+pub lexed_err : (text : List ℕ) (n : ℕ) → lexer.Stops text n → (r : Result (List Token) ℕ) → IsLexed text r → r ≡ Err n
 lexed_err text n s (Ok tokens) h = absurd (cutting.not_both text tokens n h s)
 lexed_err text n s (Err m) h = ap Err (cutting.one_line text m n h s)
 
-laid_ok : (text : List ℕ) (tokens : List Token) (lines : List LogicalLine) → AreLines text tokens lines → (r : Result (List LogicalLine) ℕ) → IsLaid text tokens r → r ≡ Ok lines
+pub laid_ok : (text : List ℕ) (tokens : List Token) (lines : List LogicalLine) → AreLines text tokens lines → (r : Result (List LogicalLine) ℕ) → IsLaid text tokens r → r ≡ Ok lines
 laid_ok text tokens lines t (Ok others) h = ap Ok (laying.one_list text tokens others lines h t)
 laid_ok text tokens lines t (Err n) h = absurd (laying.not_both text tokens lines n t h)
 
-laid_err : (text : List ℕ) (tokens : List Token) (n : ℕ) → layout.Stops text tokens n → (r : Result (List LogicalLine) ℕ) → IsLaid text tokens r → r ≡ Err n
+pub laid_err : (text : List ℕ) (tokens : List Token) (n : ℕ) → layout.Stops text tokens n → (r : Result (List LogicalLine) ℕ) → IsLaid text tokens r → r ≡ Err n
 laid_err text tokens n s (Ok lines) h = absurd (laying.not_both text tokens lines n h s)
 laid_err text tokens n s (Err m) h = ap Err (laying.one_stop text tokens m n h s)
 
@@ -128,7 +128,7 @@ parsed_tokens : (text : List ℕ) (tokens : List Token) → AreTokens (with_line
 unfolding parsed
 parsed_tokens text tokens t = ap (of_tokens (with_line_ends text)) (lexed_ok (with_line_ends text) tokens t (lexed (with_line_ends text)) (lexed_is (with_line_ends text)))
 
-parsed_lines : (text : List ℕ) (c : Cut text) → parsed text ≡ of_lines (map (told (with_line_ends text) c.tokens) c.lines)
+pub parsed_lines : (text : List ℕ) (c : Cut text) → parsed text ≡ of_lines (map (told (with_line_ends text) c.tokens) c.lines)
 parsed_lines text c =
     parsed_tokens text c.tokens c.are_tokens
     ∙ ap (of_laid (with_line_ends text) c.tokens) (laid_ok (with_line_ends text) c.tokens c.lines c.are_lines (laid (with_line_ends text) c.tokens) (laid_is (with_line_ends text) c.tokens))

@@ -22,7 +22,7 @@ or_left : (a b : Bool) → a ≡ true → (a || b) ≡ true
 or_left true b e = refl
 or_left false b e = cc
 
-or_right : (a b : Bool) → b ≡ true → (a || b) ≡ true
+pub or_right : (a b : Bool) → b ≡ true → (a || b) ≡ true
 or_right true b e = refl
 or_right false b e = e
 
@@ -35,7 +35,7 @@ counted_is deep (l.header h (x ∷ xs)) = refl
 counted_is deep (l.header h []) = refl
 counted_is deep (l.simples xs) = refl
 
-depth_least : (deep : ℕ) (f : Form) → deep ≤ depth_of deep f
+pub depth_least : (deep : ℕ) (f : Form) → deep ≤ depth_of deep f
 depth_least deep (a_line (l.header h (x ∷ xs))) = omega arith
 depth_least deep (a_line (l.header h [])) = omega arith
 depth_least deep (a_line (l.simples xs)) = omega arith

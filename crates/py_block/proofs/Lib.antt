@@ -7,3 +7,17 @@ pub mod FormLaws
 pub mod BlockLaws
 pub mod CellLaws
 pub mod LawfulCells
+pub mod FormAnswers
+pub mod LineTokens
+pub mod Passing
+pub mod Apart
+pub mod Answering
+pub mod NodeCounts
+pub mod Kept
+pub mod Reaching
+pub mod NodeLaws
+pub mod LevelForms
+pub mod LevelLists
+pub mod LevelHeaders
+pub mod LevelLines
+pub mod LevelSteps

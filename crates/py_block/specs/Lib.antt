@@ -2,3 +2,11 @@ pub mod Machine
 pub mod Lexing
 pub mod Parsed
 pub mod Cell
+pub mod Opened
+pub mod PlainCodes
+pub mod LevelViews
+pub mod LevelAnswers
+pub mod Answer
+pub mod NodeLines
+pub mod Pass
+pub mod NodePlaces
