@@ -1,0 +1,7 @@
+use Rattle.std.proofs.Common.{◌≡◌, drop}
+use Rattle.std.specs.List.{list_any}
+use Rattle.std.specs.Str.{bytes_eq}
+use Rattle.plain_cells.proofs.built_ins.is_among.Given as goal
+
+abbrev pub invariant-loop-word : goal.invariant-loop-word
+invariant-loop-word l = list_any (λ t. bytes_eq t.now l.name) (drop l.word-index l.words) ≡ list_any (λ t. bytes_eq t.now l.name) l.words
