@@ -1,0 +1,5 @@
+pub mod AcceptedLaws
+pub mod Each
+pub mod FaultNodes
+pub mod Least
+pub mod Texts
