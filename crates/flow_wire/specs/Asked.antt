@@ -6,7 +6,7 @@ use Rattle.serde_json.specs.Data.{Data, Members, no_members, member}
 use Rattle.serde_json.specs.Find.{get, as_str, as_object}
 use Rattle.serde_json.specs.Read.{read}
 use Rattle.flow_wire.specs.declared.ask.Ask.{Ask}
-use Rattle.flow_wire.specs.declared.ask.Ask.TheVariants.{Edit, Run}
+use Rattle.flow_wire.specs.declared.ask.Ask.TheVariants.{Edit, Run, Show}
 use Rattle.flow_wire.specs.declared.ask.BadAsk.{BadAsk}
 use Rattle.flow_wire.specs.declared.ask.BadAsk.TheVariants as bad
 use Rattle.flow_wire.specs.declared.reply.EventKind.{EventKind}
@@ -64,6 +64,10 @@ edit_of d =
 abbrev pub run_of : Data → Option Ask
 run_of d = if is_event (codes "run") d && has_members 2 d then option_map (λ cell. Run cell None) (cell_at d) else None
 
+-- {"event":"show","cell":C}
+abbrev pub show_of : Data → Option Ask
+show_of d = if is_event (codes "show") d && has_members 2 d then option_map (λ cell. Show cell) (cell_at d) else None
+
 -- ---- the line
 
 abbrev pub first_shape : List (Option Ask) → Result Ask EventKind
@@ -72,7 +76,7 @@ first_shape (Some ask ∷ others) = Ok ask
 first_shape (None ∷ others) = first_shape others
 
 abbrev pub ask_of : Data → Result Ask EventKind
-ask_of d = first_shape (edit_of d ∷ run_of d ∷ [])
+ask_of d = first_shape (edit_of d ∷ run_of d ∷ show_of d ∷ [])
 
 abbrev pub or_json : Option Data → Result Data EventKind
 or_json None = Err Json

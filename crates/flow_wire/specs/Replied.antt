@@ -11,11 +11,11 @@ use Rattle.flow_base.specs.declared.kinds.SyntaxKind.TheVariants as syntax
 use Rattle.flow_wire.specs.declared.reply.EndText.{EndText}
 use Rattle.flow_wire.specs.declared.reply.EndText.TheVariants as end
 use Rattle.flow_wire.specs.declared.reply.MarkText.{MarkText}
-use Rattle.flow_wire.specs.declared.reply.MarkText.TheVariants.{Clean, Stale, Unknown, Form}
+use Rattle.flow_wire.specs.declared.reply.MarkText.TheVariants.{Clean, Stale, Unknown, Form as form_of_run}
 use Rattle.flow_wire.specs.declared.reply.EventKind.{EventKind}
 use Rattle.flow_wire.specs.declared.reply.EventKind.TheVariants as event
 use Rattle.flow_wire.specs.declared.reply.Reply.{Reply}
-use Rattle.flow_wire.specs.declared.reply.Reply.TheVariants.{Edited, Ran, Event, NoCell, BadSteps, Syntax}
+use Rattle.flow_wire.specs.declared.reply.Reply.TheVariants.{Edited, Ran, Shown, Event, NoCell, BadSteps, Form, Syntax}
 
 -- ---- names
 
@@ -75,7 +75,7 @@ mark_data (Stale computed dep overwritten symbol) = object (member (codes "stale
     (member (codes "symbol") (text_data symbol)
     no_members))))) no_members)
 mark_data (Unknown unknown) = unknown_data (kind_name unknown.kind) unknown.run unknown.node
-mark_data (Form run) = unknown_data (codes "form") run 1
+mark_data (form_of_run run) = unknown_data (codes "form") run 1
 
 -- ---- the reply
 
@@ -89,9 +89,11 @@ reply_data (Ran cell end mark out run stale) = object
     (member (codes "run") (count_data run)
     (member (codes "stale") (texts_data stale)
     no_members))))))
+reply_data (Shown cell text) = object (member (codes "cell") (text_data cell) (member (codes "text") (text_data text) no_members))
 reply_data (Event kind) = object (member (codes "kind") (string (event_kind_name kind)) (member (codes "refused") (string (codes "event")) no_members))
 reply_data NoCell = object (member (codes "refused") (string (codes "no cell")) no_members)
 reply_data BadSteps = object (member (codes "refused") (string (codes "steps")) no_members)
+reply_data Form = object (member (codes "refused") (string (codes "form")) no_members)
 reply_data (Syntax kind line) = object
     (member (codes "kind") (string (syntax_kind_name kind))
     (member (codes "line") (count_data line)
@@ -106,7 +108,9 @@ reply_text r = compact_text (reply_data r)
 abbrev pub is_refusal : Reply → Bool
 is_refusal (Edited cell) = false
 is_refusal (Ran cell end mark out run stale) = false
+is_refusal (Shown cell text) = false
 is_refusal (Event kind) = true
 is_refusal NoCell = true
 is_refusal BadSteps = true
+is_refusal Form = true
 is_refusal (Syntax kind line) = true

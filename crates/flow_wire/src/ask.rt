@@ -16,6 +16,8 @@ pub enum Ask {
     Edit { cell: PyText, text: PyText },
     /// The cell is to be run, with so many steps at most, or with the kernel's own number of steps where none is given.
     Run { cell: PyText, steps: Option<u64> },
+    /// The cell is to be shown.
+    Show { cell: PyText },
 }
 
 /// Why a line has no ask: the first of these that holds. Want of memory may come in place of each.
@@ -46,7 +48,7 @@ impl From<NoMemory> for BadAsk {
     }
 }
 
-ghost use Rattle.flow_wire.specs.Asked.{IsBad, ask_of_line, data_of_line, ask_of, edit_of, run_of, cell_at, text_at, is_event, has_members, is_cell_name, is_cell_char};
+ghost use Rattle.flow_wire.specs.Asked.{IsBad, ask_of_line, data_of_line, ask_of, edit_of, run_of, show_of, cell_at, text_at, is_event, has_members, is_cell_name, is_cell_char};
 
 /// Reads a line, which stands here without its line feed, as JSON (RFC 8259). Of a key that stands twice in an object
 /// the last value counts.
@@ -90,6 +92,9 @@ fn find_ask(alloc: Global, value: &Value) -> Result<Ask, BadAsk>
     if let Some(ask) = read_run(alloc, value)? {
         return Ok(ask);
     }
+    if let Some(ask) = read_show(alloc, value)? {
+        return Ok(ask);
+    }
     Err(BadAsk::Shape)
 }
 
@@ -118,6 +123,18 @@ fn read_run(alloc: Global, value: &Value) -> Result<Option<Ask>, NoMemory>
         return Ok(None);
     };
     Ok(Some(Ask::Run { cell, steps: None }))
+}
+
+fn read_show(alloc: Global, value: &Value) -> Result<Option<Ask>, NoMemory>
+    ensures { IfOk result (λ ask. ask ≡ show_of (view value.now)) }
+{
+    if !(is_event(value, "show") && has_members(value, 2)) {
+        return Ok(None);
+    }
+    let Some(cell) = read_cell(alloc, value)? else {
+        return Ok(None);
+    };
+    Ok(Some(Ask::Show { cell }))
 }
 
 fn read_cell(alloc: Global, value: &Value) -> Result<Option<PyText>, NoMemory>

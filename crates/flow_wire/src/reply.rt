@@ -75,6 +75,11 @@ pub enum Reply {
         run: u64,
         stale: TextList,
     },
+    /// The cell, printed.
+    Shown {
+        cell: PyText,
+        text: PyText,
+    },
     /// The line is no event.
     Event {
         kind: EventKind,
@@ -83,6 +88,8 @@ pub enum Reply {
     NoCell,
     /// The line asks for more steps than a run may have.
     BadSteps,
+    /// The cell has a form that is not run.
+    Form,
     /// The text was refused, for the fault on this line of it, counted from 1.
     Syntax {
         kind: SyntaxKind,
@@ -101,8 +108,12 @@ impl Reply {
         ensures key { result ≡ is_some (get (codes "refused") (reply_data self.now)) }
     {
         match self {
-            Reply::Edited { .. } | Reply::Ran { .. } => false,
-            Reply::Event { .. } | Reply::NoCell | Reply::BadSteps | Reply::Syntax { .. } => true,
+            Reply::Edited { .. } | Reply::Ran { .. } | Reply::Shown { .. } => false,
+            Reply::Event { .. }
+            | Reply::NoCell
+            | Reply::BadSteps
+            | Reply::Form
+            | Reply::Syntax { .. } => true,
         }
     }
 }

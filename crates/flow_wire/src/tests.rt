@@ -37,6 +37,19 @@ fn edits(alloc: Global, line: &str, cell: &str, to: &str) -> Result<bool, BadAsk
     Ok(is_edit(&ask, &cell, &to))
 }
 
+fn is_show(ask: &Ask, of: &PyText) -> bool {
+    match ask {
+        Ask::Show { cell } => cell.same(of),
+        _ => false,
+    }
+}
+
+fn shows(alloc: Global, line: &str, cell: &str) -> Result<bool, BadAsk> {
+    let cell = text(alloc, cell)?;
+    let ask = read_ask(alloc, line.as_bytes())?;
+    Ok(is_show(&ask, &cell))
+}
+
 fn fault(alloc: Global, line: &[u8]) -> Option<BadAsk> {
     read_ask(alloc, line).err()
 }
@@ -78,6 +91,7 @@ fn reads_asks(rt: HostRuntime) -> Result<(), Fail> {
     ] {
         assert!(rt; edits(alloc, line, "a", text)?);
     }
+    assert!(rt; shows(alloc, r#"{"cell":"a","event":"show"}"#, "a")?);
     Ok(())
 }
 
@@ -99,6 +113,8 @@ fn refuses_lines(rt: HostRuntime) -> Result<(), Fail> {
         r#"{"cell":"a","event":"marks"}"#,
         r#"{"cell":"a","event":"run","more":null}"#,
         r#"{"cell":"a","event":"run","steps":5}"#,
+        r#"{"cell":"a","event":"show","text":""}"#,
+        r#"{"event":"show"}"#,
         r#"{"cell":"a","event":"edit"}"#,
         r#"{"cell":"a","event":"edit","text":1}"#,
         r#"{"cell":"a","event":"edit","more":1,"text":""}"#,
@@ -125,6 +141,12 @@ fn is_written(alloc: Global, reply: Reply, want: &str) -> Result<bool, NoMemory>
 fn edited(alloc: Global) -> Result<Reply, NoMemory> {
     let cell = text(alloc, "a")?;
     Ok(Reply::Edited { cell })
+}
+
+fn shown(alloc: Global) -> Result<Reply, NoMemory> {
+    let cell = text(alloc, "a")?;
+    let text = text(alloc, "x = \"1\"\n")?;
+    Ok(Reply::Shown { cell, text })
 }
 
 fn two_paths(alloc: Global) -> Result<TextList, NoMemory> {
@@ -182,6 +204,8 @@ fn writes_answers(rt: HostRuntime) -> Result<(), Fail> {
     let alloc = rt.alloc();
     let want = r#"{"cell":"a","edited":true}"#;
     assert!(rt; is_written(alloc, edited(alloc)?, want)?);
+    let want = r#"{"cell":"a","text":"x = \"1\"\n"}"#;
+    assert!(rt; is_written(alloc, shown(alloc)?, want)?);
     let want = r#"{"cell":"a","end":"ok","mark":"clean","out":"","run":7,"stale":[]}"#;
     assert!(rt; is_written(alloc, plain(alloc, EndText::Ok, MarkText::Clean)?, want)?);
     let want =
@@ -225,6 +249,7 @@ fn writes_refusals(rt: HostRuntime) -> Result<(), Fail> {
     let alloc = rt.alloc();
     assert!(rt; is_written(alloc, Reply::NoCell, r#"{"refused":"no cell"}"#)?);
     assert!(rt; is_written(alloc, Reply::BadSteps, r#"{"refused":"steps"}"#)?);
+    assert!(rt; is_written(alloc, Reply::Form, r#"{"refused":"form"}"#)?);
     for (kind, want) in [
         (EventKind::Long, r#"{"kind":"long","refused":"event"}"#),
         (EventKind::Utf8, r#"{"kind":"utf8","refused":"event"}"#),
@@ -267,6 +292,8 @@ fn writes_refusals(rt: HostRuntime) -> Result<(), Fail> {
 #[test]
 fn tells_refusals(rt: HostRuntime) -> Result<(), Fail> {
     assert!(rt; Reply::NoCell.is_refusal());
+    assert!(rt; Reply::Form.is_refusal());
+    assert!(rt; !shown(rt.alloc())?.is_refusal());
     assert!(rt; !edited(rt.alloc())?.is_refusal());
     Ok(())
 }

@@ -34,9 +34,11 @@ fn reply_value(alloc: Global, r: &Reply) -> Result<Value, NoMemory>
             run,
             stale,
         } => ran_value(alloc, cell, end, mark, out, *run, stale)?,
+        Reply::Shown { cell, text } => shown_value(alloc, cell, text)?,
         Reply::Event { kind } => event_value(alloc, *kind)?,
         Reply::NoCell => json!(in alloc; {"refused": "no cell"})?,
         Reply::BadSteps => json!(in alloc; {"refused": "steps"})?,
+        Reply::Form => json!(in alloc; {"refused": "form"})?,
         Reply::Syntax { kind, line } => syntax_value(alloc, *kind, *line)?,
     };
     Ok(value)
@@ -75,6 +77,15 @@ fn ran_value(
         texts_value(alloc, stale.as_slice())?,
     )?;
     Ok(Value::from(members))
+}
+
+fn shown_value(alloc: Global, cell: &PyText, text: &PyText) -> Result<Value, NoMemory>
+    ensures { IfOk result (λ value. view value ≡ reply_data (Reply.Shown cell.now text.now)) }
+{
+    let cell = text_value(alloc, cell)?;
+    let text = text_value(alloc, text)?;
+    let value = json!(in alloc; {"cell": cell, "text": text})?;
+    Ok(value)
 }
 
 fn event_value(alloc: Global, kind: EventKind) -> Result<Value, NoMemory>

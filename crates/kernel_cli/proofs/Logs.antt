@@ -1,10 +1,6 @@
 -- The replies to logs, computed.
-use Rattle.std.proofs.Common.{◌≡◌, ℕ, cond, List, [], ◌∷◌, ◌++◌, ◌∙◌, refl, ap, sym, subst, take, arith}
-use Rattle.std.specs.Prelude.{Some, codes}
-use Rattle.std.specs.Ordering.{eq_by_cmp, nat_cmp}
-use Rattle.std.specs.Cmp.{nat_cmp_total}
-use Rattle.std.specs.Cmp.Lexicographic.{nat_list_cmp_total, slice_cmp}
-use Rattle.std.specs.FinMap as map
+use Rattle.std.proofs.Common.{◌≡◌, ℕ, List, [], ◌∷◌, ◌∙◌, refl, ap, sym, subst, take}
+use Rattle.std.specs.Prelude.{codes}
 use Rattle.std.specs.Fmt.{digits}
 use Rattle.std.specs.Str.{chars, is_utf8}
 use lib.Utf8.{encode}
@@ -18,25 +14,14 @@ use Rattle.flow_wire.specs.declared.reply.MarkText.TheVariants.{Clean, Stale}
 use Rattle.flow_wire.specs.declared.reply.Reply.{Reply}
 use Rattle.flow_wire.specs.declared.reply.Reply.TheVariants.{Edited, Ran}
 use Rattle.kernel_core.specs.declared.accepted.Accepted.{Accepted}
-use Rattle.kernel_core.specs.declared.accepted.Accepted.TheVariants.{Edit, Run}
-use Rattle.kernel_core.specs.declared.state.Kept.{Kept}
 use Rattle.kernel_core.specs.Answer.{Answer}
 use Rattle.kernel_core.specs.Kernel.{Held, running}
 use Rattle.kernel_core.specs.Examples.{UsesRun}
-use Rattle.kernel_core.specs.Lineage.{global}
+use Rattle.kernel_core.proofs.Shown as session
+use Rattle.kernel_core.proofs.Shown.{answer_1, answer_2, answer_3, answer_4, answer_5, answer_6, answer_7, b_uses_a, c_uses_b}
 use Rattle.kernel_cli.specs.declared.words.TheConstants.{DEFAULT_STEPS}
 use Rattle.kernel_cli.specs.Examples.{accepted_of, clean_log, clean_replies, stale_log, stale_replies}
 use Rattle.kernel_cli.specs.Output.{kernel_after, line_answer, output_of, replies_from, written_for}
-
--- what a map answers after it was written
-get_text : (m : map.FinMap (slice_cmp nat_cmp) Kept) (cell : List ℕ) (kept : Kept) (other : List ℕ)
-    → map.get (map.insert m cell kept) other ≡ cond (eq_by_cmp (slice_cmp nat_cmp) other cell) (Some kept) (map.get m other)
-get_text m cell kept other = map.get-insert nat_list_cmp_total m cell kept other
-
-get_value : (m : map.FinMap nat_cmp ℕ) (s n other : ℕ) → map.get (map.insert m s n) other ≡ cond (eq_by_cmp nat_cmp other s) (Some n) (map.get m other)
-get_value m s n other = map.get-insert nat_cmp_total m s n other
-
-ruleset written_maps = (get_text, get_value)
 
 -- a kernel that has accepted this
 abbrev at : List Accepted → Held
@@ -46,28 +31,28 @@ step : (k next : Held) (line : List ℕ) (lines : List (List ℕ)) (reply : Repl
     → line_answer k line ≡ record { reply = reply; kernel = next } → replies_from next lines ≡ replies → replies_from k (line ∷ lines) ≡ reply ∷ replies
 step k next line lines reply replies is rest = ap (λ (a : Answer). a.reply ∷ replies_from a.kernel lines) is ∙ ap (λ (rs : List Reply). reply ∷ rs) rest
 
--- ---- what was accepted, line by line
+-- ---- what was accepted, line by line; each run is allowed two steps more than the number
 
 abbrev log_1 : List Accepted
-log_1 = Edit (codes "a") (codes "x = 1") ∷ []
+log_1 = session.log_1 99_998
 
 abbrev log_2 : List Accepted
-log_2 = log_1 ++ Run (codes "a") 100_000 ∷ []
+log_2 = session.log_2 99_998
 
 abbrev log_3 : List Accepted
-log_3 = log_2 ++ Edit (codes "b") (codes "y = x") ∷ []
+log_3 = session.log_3 99_998
 
 abbrev log_4 : List Accepted
-log_4 = log_3 ++ Run (codes "b") 100_000 ∷ []
+log_4 = session.log_4 99_998
 
 abbrev log_5 : List Accepted
-log_5 = log_4 ++ Run (codes "a") 100_000 ∷ []
+log_5 = session.log_5 99_998
 
 abbrev log_6 : List Accepted
-log_6 = log_5 ++ Edit (codes "c") (codes "z = y") ∷ []
+log_6 = session.log_6 99_998
 
 abbrev log_7 : List Accepted
-log_7 = log_6 ++ Run (codes "c") 100_000 ∷ []
+log_7 = session.log_7 99_998
 
 -- ---- the answer to each line
 
@@ -115,31 +100,31 @@ reply_7 = Ran (codes "c") end.Ok (Stale 2 (codes "x") 3 (codes "y")) [] 4 (codes
 
 is_1 : line_answer (at []) line_1 ≡ record { reply = reply_1; kernel = at log_1 }
 unfolding is_utf8 chars encode value punctuate lex content
-is_1 = refl
+is_1 = answer_1 99_998
 
 is_2 : line_answer (at log_1) line_2 ≡ record { reply = reply_2; kernel = at log_2 }
 unfolding is_utf8 chars encode value punctuate lex content
-is_2 = simp written_maps
+is_2 = answer_2 99_998 refl
 
 is_3 : line_answer (at log_2) line_3 ≡ record { reply = reply_3; kernel = at log_3 }
 unfolding is_utf8 chars encode value punctuate lex content
-is_3 = refl
+is_3 = answer_3 99_998
 
 is_4 : line_answer (at log_3) line_4 ≡ record { reply = reply_4; kernel = at log_4 }
 unfolding is_utf8 chars encode value punctuate lex content
-is_4 = simp written_maps
+is_4 = answer_4 99_998 refl
 
 is_5 : line_answer (at log_4) line_5 ≡ record { reply = reply_5; kernel = at log_5 }
 unfolding is_utf8 chars encode value punctuate lex content
-is_5 = simp written_maps
+is_5 = answer_5 99_998 refl
 
 is_6 : line_answer (at log_5) line_6 ≡ record { reply = reply_6; kernel = at log_6 }
 unfolding is_utf8 chars encode value punctuate lex content
-is_6 = refl
+is_6 = answer_6 99_998
 
 is_7 : line_answer (at log_6) line_7 ≡ record { reply = reply_7; kernel = at log_7 }
 unfolding is_utf8 chars encode value punctuate lex content
-is_7 = simp written_maps
+is_7 = answer_7 99_998 refl
 
 -- ---- the replies
 
@@ -196,15 +181,8 @@ stale_accepted = after_step (at []) (at log_1) line_1 (line_2 ∷ line_3 ∷ lin
     after_step (at log_5) (at log_6) line_6 [] reply_6 (at log_6) is_6 (
     refl))))))
 
--- x and y have the symbols 0 and 1
-uses_x : UsesRun log_3 (codes "b") 1
-uses_x = simp written_maps (global (record { 0 = 0 }), (0, omega arith, refl), refl)
+pub clean_uses : UsesRun (accepted_of clean_log 3) (codes "b") DEFAULT_STEPS 1
+clean_uses = subst (λ (k : Held). UsesRun k.log (codes "b") DEFAULT_STEPS 1) (sym clean_accepted) (b_uses_a 99_998)
 
-uses_y : UsesRun log_6 (codes "c") 2
-uses_y = simp written_maps (global (record { 0 = 1 }), (0, omega arith, refl), refl)
-
-pub clean_uses : UsesRun (accepted_of clean_log 3) (codes "b") 1
-clean_uses = subst (λ (k : Held). UsesRun k.log (codes "b") 1) (sym clean_accepted) uses_x
-
-pub stale_uses : UsesRun (accepted_of stale_log 6) (codes "c") 2
-stale_uses = subst (λ (k : Held). UsesRun k.log (codes "c") 2) (sym stale_accepted) uses_y
+pub stale_uses : UsesRun (accepted_of stale_log 6) (codes "c") DEFAULT_STEPS 2
+stale_uses = subst (λ (k : Held). UsesRun k.log (codes "c") DEFAULT_STEPS 2) (sym stale_accepted) (c_uses_b 99_998)

@@ -40,6 +40,10 @@ const SHAPE: &str = "{\"kind\":\"shape\",\"refused\":\"event\"}\n";
 
 const NO_CELL: &str = "{\"refused\":\"no cell\"}\n";
 
+const FORM: &str = "{\"refused\":\"form\"}\n";
+
+const SHOW: &str = "{\"event\":\"show\",\"cell\":\"a\"}\n";
+
 const SYNTAX_1: &str = "{\"kind\":\"syntax\",\"line\":1,\"refused\":\"syntax\"}\n";
 
 const CHAIN_BEGIN: &str =
@@ -167,6 +171,71 @@ fn logs_get_their_replies(rt: HostRuntime) -> Result<(), Fail> {
     for (log, faults, status, replies) in rows {
         let log = joined(alloc, log)?;
         answers(&rt, &log, faults, status, replies)?;
+    }
+    Ok(())
+}
+
+// A text that a cell may not have, the kind of its first fault, and the line of that. The cell keeps its old text.
+#[test]
+fn texts_are_refused_by_kind_and_line(rt: HostRuntime) -> Result<(), Fail> {
+    let alloc = rt.alloc();
+    for (text, kind, line) in [
+        ("x = $", "lex", "1"),
+        ("if x:\\n  y\\n z", "layout", "3"),
+        ("import os", "unsupported", "1"),
+        ("x = 170141183460469231731687303715884105728", "limit", "1"),
+        ("x =", "syntax", "1"),
+        ("nonlocal x", "scope", "1"),
+    ] {
+        let log = joined(
+            alloc,
+            &[
+                EDIT,
+                "{\"event\":\"edit\",\"cell\":\"a\",\"text\":\"",
+                text,
+                "\"}\n",
+                RUN,
+            ],
+        )?;
+        let replies = [
+            EDITED,
+            "{\"kind\":\"",
+            kind,
+            "\",\"line\":",
+            line,
+            ",\"refused\":\"syntax\"}\n",
+            RAN_1,
+        ];
+        answers(&rt, &log, (0, 0), Status::Refused, &replies)?;
+    }
+    Ok(())
+}
+
+// A text that a cell may have, a line behind its edit, the status, and the reply to that line. A run of a cell that is not plain is
+// refused.
+#[test]
+fn texts_are_accepted(rt: HostRuntime) -> Result<(), Fail> {
+    let alloc = rt.alloc();
+    for (text, line, status, reply) in [
+        ("x=1;y = (2)", RUN, Status::Done, RAN_1),
+        ("x = 1\\r\\ny = x\\r\\n", RUN, Status::Done, RAN_1),
+        ("# a cell\\nx = (1 +\\n  2)", RUN, Status::Done, RAN_1),
+        ("", RUN, Status::Done, RAN_1),
+        ("def f(x):\\n  return x", RUN, Status::Refused, FORM),
+        ("x = 1 - 1", RUN, Status::Refused, FORM),
+        ("x = len", RUN, Status::Refused, FORM),
+        ("x = 1", SHOW, Status::Refused, SHAPE),
+    ] {
+        let log = joined(
+            alloc,
+            &[
+                "{\"event\":\"edit\",\"cell\":\"a\",\"text\":\"",
+                text,
+                "\"}\n",
+                line,
+            ],
+        )?;
+        answers(&rt, &log, (0, 0), status, &[EDITED, reply])?;
     }
     Ok(())
 }

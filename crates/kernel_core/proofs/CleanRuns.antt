@@ -24,17 +24,18 @@ use Rattle.trace_events.proofs.Ancestors.{IsAscending, writes_ascend}
 use Rattle.trace_events.proofs.Lists.{Contains-cons, Contains-filter, Contains-filter_of, Contains-head}
 use Rattle.trace_events.proofs.Reasons.{least_found, least_none, stale_reason}
 use Rattle.trace_events.proofs.StaleTest.{stale_within_true, true_stale_within}
+use Rattle.py_accepted.specs.Accepted.{cell_of}
+use Rattle.py_ast.specs.Statement.{Block}
+use Rattle.py_block.specs.Parsed.{Fault}
+use Rattle.plain_cells.specs.Run.{Values, events_from, global}
 use Rattle.kernel_core.specs.declared.accepted.Accepted.{Accepted}
 use Rattle.kernel_core.specs.declared.accepted.Accepted.TheVariants.{Edit, Run}
-use Rattle.kernel_core.specs.declared.form.Assign.{Assign}
-use Rattle.kernel_core.specs.declared.state.Kept.{Kept}
 use Rattle.kernel_core.specs.declared.state.State.{State}
 use Rattle.kernel_core.specs.Clean.{HasNoStaleUse, LeavesNoStale, history_after}
-use Rattle.kernel_core.specs.Form.{cell_of}
-use Rattle.kernel_core.specs.Lineage.{events_from, global, in_order, is_use, live_names, live_versions, mark_for, mark_of, path_of, stale_mark, stale_paths, version_now}
+use Rattle.kernel_core.specs.Lineage.{in_order, is_use, live_names, live_versions, mark_for, mark_of, path_of, stale_mark, stale_paths, version_now}
 use Rattle.kernel_core.specs.Marking.{versions_of}
-use Rattle.kernel_core.specs.Run.{Values}
-use Rattle.kernel_core.specs.State.{after, edited, empty_state, ran, state_of}
+use Rattle.kernel_core.specs.Program.{program_of}
+use Rattle.kernel_core.specs.State.{after, edited, empty_state, ran, ran_program, state_of}
 use Rattle.kernel_core.proofs.KeptClean.{leaves_no_stale}
 use Rattle.kernel_core.proofs.LiveUses.{AtSymbol, OfName, live_uses}
 
@@ -48,17 +49,21 @@ history_more : (h : History) (events : List Event) → IsHistory h → IsHistory
 history_more h events is =
     (is.0 ++ events ∷ [], ap (λ (x : History). x ++ summary_of events ∷ []) is.1 ∙ sym (map-append summary_of is.0 (events ∷ [])))
 
-edited_history : (s : State) (cell text : List ℕ) (read : Result (List Assign) ℕ) → IsHistory s.versions → IsHistory (edited s cell text read).versions
-edited_history s cell text (Ok assigns) is = is
-edited_history s cell text (Err line) is = is
+edited_history : (s : State) (cell text : List ℕ) (answer : Result Block Fault) → IsHistory s.versions → IsHistory (edited s cell text answer).versions
+edited_history s cell text (Ok b) is = is
+edited_history s cell text (Err fault) is = is
 
-ran_history : (s : State) (cell : List ℕ) (steps : ℕ) (o : Option Kept) → IsHistory s.versions → IsHistory (ran s cell steps o).versions
-ran_history s cell steps None is = is
-ran_history s cell steps (Some kept) is = history_more s.versions (events_from s.names s.values kept.assigns) is
+ran_history : (s : State) (cell : List ℕ) (steps : ℕ) (text : List ℕ) (o : Option Block) → IsHistory s.versions → IsHistory (ran_program s cell steps text o).versions
+ran_history s cell steps text None is = is
+ran_history s cell steps text (Some b) is = history_more s.versions (events_from s.names s.values steps b) is
+
+run_history : (s : State) (cell : List ℕ) (steps : ℕ) (o : Option (List ℕ)) → IsHistory s.versions → IsHistory (ran s cell steps o).versions
+run_history s cell steps None is = is
+run_history s cell steps (Some text) is = ran_history s cell steps text (program_of text) is
 
 after_history : (s : State) (line : Accepted) → IsHistory s.versions → IsHistory (after s line).versions
 after_history s (Edit cell text) is = edited_history s cell text (cell_of text) is
-after_history s (Run cell steps) is = ran_history s cell steps (map.get s.cells cell) is
+after_history s (Run cell steps) is = run_history s cell steps (map.get s.cells cell) is
 
 all_history : (log : List Accepted) (s : State) → IsHistory s.versions → IsHistory (fold after s log).versions
 all_history [] s is = is
@@ -113,10 +118,10 @@ module _ (names : List (List ℕ)) (h : History) (ascend : IsAscending h) where
   fresh_names (name ∷ live) f = let parts = fresh_head (symbol_of names name) (versions_of names h live) f in (parts.0, fresh_names live parts.1)
 
   -- a clean run uses nothing stale
-  pub clean_uses : (values : Values) (assigns : List Assign) → mark_of names h assigns ≡ Clean → HasNoStaleUse h (events_from names values assigns)
-  clean_uses values assigns m =
-      live_uses names IsFresh values assigns (fresh_names (live_names assigns)
-      (clean_none (live_versions names h assigns) (least names (filter (is_stale h (length h)) (live_versions names h assigns))) refl m))
+  pub clean_uses : (values : Values) (steps : ℕ) (b : Block) → mark_of names h b ≡ Clean → HasNoStaleUse h (events_from names values steps b)
+  clean_uses values steps b m =
+      live_uses names IsFresh values steps b (fresh_names (live_names b)
+      (clean_none (live_versions names h b) (least names (filter (is_stale h (length h)) (live_versions names h b))) refl m))
 
 -- ---- the stale names
 
@@ -146,21 +151,21 @@ no_stale_paths names h events ascend f =
 
 -- ---- a log
 
-module _ (log : List Accepted) (assigns : List Assign) where
+module _ (log : List Accepted) (steps : ℕ) (b : Block) where
   abbrev state : State
   state = state_of log
 
   abbrev events : List Event
-  events = events_from state.names state.values assigns
+  events = events_from state.names state.values steps b
 
-  pub clean_has_no_stale_use : mark_of state.names state.versions assigns ≡ Clean → HasNoStaleUse state.versions events
-  clean_has_no_stale_use m = clean_uses state.names state.versions (history_ascends state.versions (state_history log)) state.values assigns m
+  pub clean_has_no_stale_use : mark_of state.names state.versions b ≡ Clean → HasNoStaleUse state.versions events
+  clean_has_no_stale_use m = clean_uses state.names state.versions (history_ascends state.versions (state_history log)) state.values steps b m
 
-  pub clean_leaves_no_stale : mark_of state.names state.versions assigns ≡ Clean → LeavesNoStale state.versions events
+  pub clean_leaves_no_stale : mark_of state.names state.versions b ≡ Clean → LeavesNoStale state.versions events
   clean_leaves_no_stale m = leaves_no_stale state.versions events
       (history_ascends state.versions (state_history log))
       (history_ascends (history_after state.versions events) (history_more state.versions events (state_history log)))
       (clean_has_no_stale_use m)
 
-  pub clean_names_no_stale : mark_of state.names state.versions assigns ≡ Clean → stale_paths state.names state.versions events ≡ []
+  pub clean_names_no_stale : mark_of state.names state.versions b ≡ Clean → stale_paths state.names state.versions events ≡ []
   clean_names_no_stale m = no_stale_paths state.names state.versions events (history_ascends state.versions (state_history log)) (clean_has_no_stale_use m)

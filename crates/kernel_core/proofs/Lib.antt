@@ -1,5 +1,5 @@
-pub mod FormLaws
-pub mod Keyed
+pub mod EditLaws
+pub mod NamingLaws
 pub mod LineageLaws
 pub mod ReasonLaws
 pub mod KeptClean

@@ -1,6 +1,6 @@
 -- What a cell uses before it writes it is one of its live names.
-use Rattle.std.proofs.Common.{◌≡◌, ℕ, Bool, true, false, not, cond, List, [], ◌∷◌, ◌++◌, refl, sym, subst, ap, ◌∙◌, ⊎_elim}
-use Rattle.std.specs.Prelude.{Option, Some, None, Result, Ok, Err, is_some}
+use Rattle.std.proofs.Common.{◌≡◌, ℕ, zero, suc, Bool, true, false, not, cond, List, [], ◌∷◌, ◌++◌, refl, sym, subst, ap, ◌∙◌, ⊎_elim}
+use Rattle.std.specs.Prelude.{ℤ, ◌+ℤ◌, pos, Option, Some, None, Result, Ok, Err, is_some}
 use Rattle.std.specs.List.{AllByRecursion, fold}
 use Rattle.std.proofs.lemmas.Bool.{false≢true, true≢false, or_cases}
 use Rattle.std.proofs.lemmas.List.Sums.{fold-append}
@@ -11,7 +11,7 @@ use Rattle.flow_base.specs.Names.{symbol_of}
 use Rattle.flow_base.specs.Same.{loc_eq}
 use Rattle.flow_base.specs.declared.event.Event.{Event}
 use Rattle.flow_base.specs.declared.event.Event.TheVariants.{Use, Write, Open, Close}
-use Rattle.flow_base.specs.declared.event.How.TheVariants.{Normal}
+use Rattle.flow_base.specs.declared.event.How.TheVariants.{Normal, Raise}
 use Rattle.flow_base.specs.declared.event.ReadHow.TheVariants.{Use as ByUse}
 use Rattle.flow_base.specs.declared.loc.Loc.{Loc}
 use Rattle.flow_base.specs.declared.numbers.Sym.{Sym}
@@ -20,14 +20,19 @@ use Rattle.trace_events.specs.declared.summary.Write.{Write as Written}
 use Rattle.trace_events.specs.Trace.{IsStartUse, Reading, all_uses, last_write, seen_after, seen_from, start, start_read, step, summary_of}
 use Rattle.trace_events.proofs.Reading.{each-append}
 use Rattle.trace_events.proofs.Writes.{last_write_push}
-use Rattle.kernel_core.specs.declared.form.Atom.{Atom}
-use Rattle.kernel_core.specs.declared.form.Atom.TheVariants.{Name, Number}
-use Rattle.kernel_core.specs.declared.form.Assign.{Assign}
-use Rattle.kernel_core.specs.declared.run.End.{End}
-use Rattle.kernel_core.specs.declared.run.End.TheVariants.{Done, NameError, Range}
-use Rattle.kernel_core.specs.Lineage.{end_events, event_at, events_from, global, is_in, line_events, live_from, live_names, sum_events, then_events}
+use Rattle.py_ast.specs.Statement.{Statement, Block, empty, then as before}
+use Rattle.py_ast.specs.Tree as tree
+use Rattle.py_ast.specs.Tree.{Tree}
+use Rattle.py_ast.specs.declared.expr.BinaryOp.TheVariants.{Add}
+use Rattle.py_scalars.specs.Exact.{fits}
+use Rattle.plain_cells.specs.declared.machine.End.{End}
+use Rattle.plain_cells.specs.declared.machine.End.TheVariants.{Done, NameError, Steps, Range}
+use Rattle.plain_cells.specs.declared.machine.Machine.{Machine}
+use Rattle.plain_cells.specs.Plain.{assigned, name_bound, names_read, names_used}
+use Rattle.plain_cells.specs.Run as run
+use Rattle.plain_cells.specs.Run.{M, Outcome, Values, ◌>>=◌, ◌>>◌, go_on, pure, log, logged, logged_at, load, found, value_of, store, with_value, whole, eval, closed, closing, bind, assign, exec, exec_all, global, events_from, run_of}
+use Rattle.kernel_core.specs.Lineage.{is_in, live_from, live_names, with_bound}
 use Rattle.kernel_core.specs.Marking.{live_in}
-use Rattle.kernel_core.specs.Run.{Values, plus, sum_from, with_value, worth}
 use Rattle.kernel_core.proofs.KeptClean.{each_contains}
 
 -- ---- the locations of names
@@ -68,7 +73,8 @@ written_last ws w =
 
 -- the reading after the write of a name
 abbrev binding : Reading → Option Sym → Reading
-binding r o = fold step r (event_at Write o)
+binding r None = r
+binding r (Some s) = step r (Write (global s))
 
 binding_here : (r : Reading) (o : Option Sym) → AtSymbol (IsWritten (binding r o).writes) o
 binding_here r None = tt
@@ -109,11 +115,71 @@ each_right : (Q : List ℕ → Type 0) (xs ys : List (List ℕ)) → AllByRecurs
 each_right Q [] ys a = a
 each_right Q (x ∷ xs) ys a = each_right Q xs ys a.1
 
--- ---- the start reads, where P holds of the locations of live names
+-- what holds of a name that is live holds of each name in the list, unless it is bound
+abbrev pub IfLive : List (List ℕ) → (List ℕ → Type 0) → List ℕ → Type 0
+IfLive bound Q name = is_in bound name ≡ false → Q name
+
+if_live : (bound : List (List ℕ)) (Q : List ℕ → Type 0) (xs : List (List ℕ)) → AllByRecursion Q (live_in (is_in bound) xs) → AllByRecursion (IfLive bound Q) xs
+if_live bound Q [] a = tt
+if_live bound Q (x ∷ xs) a =
+    (head_live Q (is_in bound x) x (live_in (is_in bound) xs) a, if_live bound Q xs (rest_live Q (is_in bound x) x (live_in (is_in bound) xs) a))
+
+-- ---- the reading of what a run has done so far
+
+abbrev reading : Machine → Reading
+reading m = fold step start m.events
+
+reading_logged : (e : Event) (m : Machine) → reading (logged e m) ≡ step (reading m) e
+reading_logged e m = fold-append step start m.events (e ∷ [])
+
+-- ---- the parts of a run, where P holds of the locations of live names
 
 module _ (names : List (List ℕ)) (P : Loc → Type 0) where
   abbrev AllReads : List StartRead → Type 0
   AllReads reads = AllByRecursion (λ (read : StartRead). P read.location) reads
+
+  -- P holds of each start read, and each of these names was written that the table has
+  record IsRead (bound : List (List ℕ)) (r : Reading) : Type 0 where
+    reads : AllReads r.reads
+    writes : AreWritten names r.writes bound
+
+  abbrev IsAfter : {A : Type 0} → List (List ℕ) → Result A End → Machine → Type 0
+  IsAfter bound (Ok a) m = IsRead bound (reading m)
+  IsAfter bound (Err end) m = AllReads (reading m).reads
+
+  -- a part of a run that keeps this, and after which each of the later names was written
+  abbrev Keeps : {A : Type 0} → List (List ℕ) → List (List ℕ) → M A → Type 0
+  Keeps bound later p = (m : Machine) → IsRead bound (reading m) → IsAfter later (p m).0 (p m).1
+
+  -- one after which nothing is said of what was written
+  abbrev Ends : {A : Type 0} → List (List ℕ) → M A → Type 0
+  Ends bound p = (m : Machine) → IsRead bound (reading m) → AllReads (reading (p m).1).reads
+
+  goes_on : {A B : Type 0} (b c : List (List ℕ)) (f : A → M B) → ((a : A) → Keeps b c (f a)) → (r : Result A End) (m : Machine) → IsAfter b r m
+      → IsAfter c (go_on r m f).0 (go_on r m f).1
+  goes_on b c f each (Ok a) m is = each a m is
+  goes_on b c f each (Err end) m is = is
+
+  keeps_then : {A B : Type 0} (a b c : List (List ℕ)) (p : M A) (f : A → M B) → Keeps a b p → ((x : A) → Keeps b c (f x)) → Keeps a c (p >>= f)
+  keeps_then a b c p f first each m is = goes_on b c f each (p m).0 (p m).1 (first m is)
+
+  ends_on : {A B : Type 0} (b : List (List ℕ)) (f : A → M B) → ((a : A) → Ends b (f a)) → (r : Result A End) (m : Machine) → IsAfter b r m
+      → AllReads (reading (go_on r m f).1).reads
+  ends_on b f each (Ok a) m is = each a m is
+  ends_on b f each (Err end) m is = is
+
+  ends_then : {A B : Type 0} (a b : List (List ℕ)) (p : M A) (f : A → M B) → Keeps a b p → ((x : A) → Ends b (f x)) → Ends a (p >>= f)
+  ends_then a b p f first each m is = ends_on b f each (p m).0 (p m).1 (first m is)
+
+  -- ---- the primitives
+
+  stepped : (bound : List (List ℕ)) (n : ℕ) (m : Machine) → IsRead bound (reading m) → IsAfter bound (run.take_step n m).0 (run.take_step n m).1
+  stepped bound zero m is = is.reads
+  stepped bound (suc n) m is = is
+
+  keeps_step : (bound : List (List ℕ)) → Keeps bound bound run.step
+  unfolding run.step
+  keeps_step bound m is = stepped bound m.left m is
 
   -- a use of what was written is no start read
   use_reads : (l : Loc) (o : Option ℕ) (b : Bool) → (b ≡ true → is_some o ≡ true) → (b ≡ false → P l) → AllReads (start_read (seen_from l o) ByUse)
@@ -121,90 +187,105 @@ module _ (names : List (List ℕ)) (P : Loc → Type 0) where
   use_reads l None true w f = absurd (false≢true (w refl))
   use_reads l None false w f = (f refl, tt)
 
-  name_reads : (r : Reading) (o : Option Sym) (b : Bool) → (b ≡ true → AtSymbol (IsWritten r.writes) o) → (b ≡ false → AtSymbol P o)
-      → AllReads r.reads → AllReads (fold step r (event_at Use o)).reads
-  name_reads r None b w f a = a
-  name_reads r (Some s) b w f a =
-      each-append (λ (read : StartRead). P read.location) r.reads (start_read (seen_after r.writes (global s)) ByUse) a
-      (use_reads (global s) (last_write (global s) r.writes) b w f)
+  used : (bound : List (List ℕ)) (o : Option Sym) (b : Bool) (m : Machine) → (b ≡ true → AtSymbol (IsWritten (reading m).writes) o) → (b ≡ false → AtSymbol P o)
+      → IsRead bound (reading m) → IsRead bound (reading (logged_at Use o m))
+  used bound None b m w f is = is
+  used bound (Some s) b m w f is = subst (IsRead bound) (sym (reading_logged (Use (global s)) m)) (record {
+    reads = each-append (λ (read : StartRead). P read.location) (reading m).reads (start_read (seen_after (reading m).writes (global s)) ByUse) is.reads
+        (use_reads (global s) (last_write (global s) (reading m).writes) b w f);
+    writes = is.writes;
+  })
 
-  name_writes : (r : Reading) (o : Option Sym) → (fold step r (event_at Use o)).writes ≡ r.writes
-  name_writes r None = refl
-  name_writes r (Some s) = refl
+  keeps_found : (bound : List (List ℕ)) (o : Option ℤ) → Keeps bound bound (found o)
+  keeps_found bound None m is = is.reads
+  keeps_found bound (Some v) m is = is
 
-  then_reads : (o : Result ℕ End) (next : ℕ → List Event) (r : Reading) → AllReads r.reads → ((n : ℕ) → AllReads (fold step r (next n)).reads)
-      → AllReads (fold step r (then_events o next)).reads
-  then_reads (Ok n) next r a f = f n
-  then_reads (Err end) next r a f = a
+  keeps_load : (bound : List (List ℕ)) (x : List ℕ) → IfLive bound (OfName names P) x → Keeps bound bound (load names x)
+  unfolding load
+  keeps_load bound x live m is =
+      keeps_found bound (value_of names m.values x) (logged_at Use (symbol_of names x) m)
+      (used bound (symbol_of names x) (is_in bound x) m (is.writes x) live is)
 
-  then_writes : (o : Result ℕ End) (next : ℕ → List Event) (r : Reading) → ((n : ℕ) → (fold step r (next n)).writes ≡ r.writes)
-      → (fold step r (then_events o next)).writes ≡ r.writes
-  then_writes (Ok n) next r f = f n
-  then_writes (Err end) next r f = refl
+  fitted : (bound : List (List ℕ)) (n : ℤ) (m : Machine) → IsRead bound (reading m) → (b : Bool)
+      → IsAfter bound (cond {A = Outcome ℤ} b (Ok n, m) (Err Range, m)).0 (cond {A = Outcome ℤ} b (Ok n, m) (Err Range, m)).1
+  fitted bound n m is true = is
+  fitted bound n m is false = is.reads
 
-  sum_writes : (values : Values) (n : ℕ) (atoms : List Atom) (r : Reading) → (fold step r (sum_events names values n atoms)).writes ≡ r.writes
-  sum_writes values n [] r = refl
-  sum_writes values n (Number m ∷ atoms) r = then_writes (plus n (Some m)) (λ total. sum_events names values total atoms) r (λ total. sum_writes values total atoms r)
-  sum_writes values n (Name name ∷ atoms) r =
-      let used : Reading = fold step r (event_at Use (symbol_of names name)) in
-      let next : ℕ → List Event = λ total. sum_events names values total atoms in
-      let worth_of : Option ℕ = worth names values (Name name) in
-      ap (λ (s : Reading). s.writes) (fold-append step r (event_at Use (symbol_of names name)) (then_events (plus n worth_of) next))
-      ∙ then_writes (plus n worth_of) next used (λ total. sum_writes values total atoms used)
-      ∙ name_writes r (symbol_of names name)
+  keeps_whole : (bound : List (List ℕ)) (n : ℤ) → Keeps bound bound (whole n)
+  unfolding whole
+  keeps_whole bound n m is = fitted bound n m is (fits n)
 
-  sum_reads : (values : Values) (n : ℕ) (atoms : List Atom) (bound : List (List ℕ)) (r : Reading) → AreWritten names r.writes bound
-      → AllByRecursion (OfName names P) (live_in (is_in bound) atoms) → AllReads r.reads → AllReads (fold step r (sum_events names values n atoms)).reads
-  sum_reads values n [] bound r w q a = a
-  sum_reads values n (Number m ∷ atoms) bound r w q a =
-      then_reads (plus n (Some m)) (λ total. sum_events names values total atoms) r a (λ total. sum_reads values total atoms bound r w q a)
-  sum_reads values n (Name name ∷ atoms) bound r w q a =
-      let o : Option Sym = symbol_of names name in
-      let used : Reading = fold step r (event_at Use o) in
-      let next : ℕ → List Event = λ total. sum_events names values total atoms in
-      let worth_of : Option ℕ = worth names values (Name name) in
-      let rest : List (List ℕ) = live_in (is_in bound) atoms in
-      let here : AllReads used.reads = name_reads r o (is_in bound name) (w name) (head_live (OfName names P) (is_in bound name) name rest q) a in
-      let kept : AreWritten names used.writes bound = subst (λ (ws : List Written). AreWritten names ws bound) (sym (name_writes r o)) w in
-      subst (λ (s : Reading). AllReads s.reads) (sym (fold-append step r (event_at Use o) (then_events (plus n worth_of) next)))
-      (then_reads (plus n worth_of) next used here
-      (λ total. sum_reads values total atoms bound used kept (rest_live (OfName names P) (is_in bound name) name rest q) here))
+  keeps_open : (bound : List (List ℕ)) → Keeps bound bound (log Open)
+  unfolding log
+  keeps_open bound m is = subst (IsRead bound) (sym (reading_logged Open m)) (record { reads = is.reads; writes = is.writes })
 
-  end_reads : (end : End) (r : Reading) → (fold step r (end_events end)).reads ≡ r.reads
-  end_reads Done r = refl
-  end_reads NameError r = refl
-  end_reads Range r = refl
+  reading_bound : (o : Option Sym) (m : Machine) → reading (logged_at Write o m) ≡ binding (reading m) o
+  reading_bound None m = refl
+  reading_bound (Some s) m = reading_logged (Write (global s)) m
 
-  line_reads : (name : List ℕ) (o : Result ℕ End) (next : ℕ → List Event) (r : Reading) → AllReads r.reads
-      → ((n : ℕ) → AllReads (fold step (step (binding r (symbol_of names name)) (Close Normal)) (next n)).reads)
-      → AllReads (fold step r (line_events names name o next)).reads
-  line_reads name (Ok n) next r a f =
-      subst (λ (s : Reading). AllReads s.reads) (sym (fold-append step r (event_at Write (symbol_of names name)) (Close Normal ∷ next n))) (f n)
-  line_reads name (Err end) next r a f = subst AllReads (sym (end_reads end r)) a
+  keeps_store : (bound : List (List ℕ)) (x : List ℕ) (v : ℤ) → Keeps bound (x ∷ bound) (store names x v)
+  unfolding store
+  keeps_store bound x v m is =
+      let o : Option Sym = symbol_of names x in
+      subst (IsRead (x ∷ bound)) (sym (reading_bound o (record m { values = with_value o v m.values }))) (record {
+        reads = subst AllReads (sym (binding_reads (reading m) o)) is.reads;
+        writes = bind_name names bound x (reading m) is.writes;
+      })
 
-  cell_reads : (assigns : List Assign) (values : Values) (bound : List (List ℕ)) (r : Reading) → AreWritten names r.writes bound
-      → AllByRecursion (OfName names P) (live_from bound assigns) → AllReads r.reads → AllReads (fold step r (events_from names values assigns)).reads
-  cell_reads [] values bound r w q a = a
-  cell_reads (assign ∷ assigns) values bound r w q a =
-      let opened : Reading = step r Open in
-      let sums : List Event = sum_events names values 0 assign.sum in
-      let summed : Reading = fold step opened sums in
-      let first : List (List ℕ) = live_in (is_in bound) assign.sum in
-      let later : List (List ℕ) = live_from (assign.name ∷ bound) assigns in
-      let read : AllReads summed.reads = sum_reads values 0 assign.sum bound opened w (each_left (OfName names P) first later q) a in
-      let kept : AreWritten names summed.writes bound = subst (λ (ws : List Written). AreWritten names ws bound) (sym (sum_writes values 0 assign.sum opened)) w in
-      let after : Reading = step (binding summed (symbol_of names assign.name)) (Close Normal) in
-      let next : ℕ → List Event = λ n. events_from names (with_value names values assign.name n) assigns in
-      let total : Result ℕ End = sum_from names values 0 assign.sum in
-      let still : AllReads after.reads = subst AllReads (sym (binding_reads summed (symbol_of names assign.name))) read in
-      subst (λ (s : Reading). AllReads s.reads) (sym (fold-append step opened sums (line_events names assign.name total next)))
-      (line_reads assign.name total next summed read
-      (λ n. cell_reads assigns (with_value names values assign.name n) (assign.name ∷ bound) after
-      (bind_name names bound assign.name summed kept) (each_right (OfName names P) first later q) still))
+  keeps_closed : {A : Type 0} (later : List (List ℕ)) (r : Result A End) (m : Machine) → IsAfter later r m → IsAfter later (closed r m).0 (closed r m).1
+  keeps_closed later (Ok a) m is = subst (IsRead later) (sym (reading_logged (Close Normal) m)) (record { reads = is.reads; writes = is.writes })
+  keeps_closed later (Err NameError) m is = subst (λ (r : Reading). AllReads r.reads) (sym (reading_logged (Close Raise) m)) is
+  keeps_closed later (Err Done) m is = is
+  keeps_closed later (Err Steps) m is = is
+  keeps_closed later (Err Range) m is = is
+
+  keeps_closing : {A : Type 0} (bound later : List (List ℕ)) (p : M A) → Keeps bound later p → Keeps bound later (closing p)
+  unfolding closing
+  keeps_closing bound later p k m is = keeps_closed later (p m).0 (p m).1 (k m is)
+
+  -- ---- expressions and statements
+
+  keeps_eval : (bound : List (List ℕ)) (e : Tree) → AllByRecursion (IfLive bound (OfName names P)) (names_used e) → Keeps bound bound (eval names e)
+  keeps_eval bound (tree.name x) live = keeps_then bound bound bound run.step (λ _. load names x) (keeps_step bound) (λ _. keeps_load bound x live.0)
+  keeps_eval bound (tree.number n) live = keeps_then bound bound bound run.step (λ _. pure n) (keeps_step bound) (λ _ m is. is)
+  keeps_eval bound (tree.binary a Add b) live =
+      let Q : List ℕ → Type 0 = IfLive bound (OfName names P) in
+      keeps_then bound bound bound run.step (λ _. eval names a >>= λ x. eval names b >>= λ y. whole (x +ℤ y)) (keeps_step bound)
+      (λ _. keeps_then bound bound bound (eval names a) (λ x. eval names b >>= λ y. whole (x +ℤ y))
+      (keeps_eval bound a (each_left Q (names_used a) (names_used b) live))
+      (λ x. keeps_then bound bound bound (eval names b) (λ y. whole (x +ℤ y))
+      (keeps_eval bound b (each_right Q (names_used a) (names_used b) live))
+      (λ y. keeps_whole bound (x +ℤ y))))
+  keeps_eval bound _ live = λ m is. is
+
+  keeps_assign : (bound : List (List ℕ)) (o : Option (List ℕ × Tree)) → AllByRecursion (IfLive bound (OfName names P)) (names_read o)
+      → Keeps bound (with_bound (name_bound o) bound) (assign names o)
+  keeps_assign bound None live = λ m is. is
+  keeps_assign bound (Some p) live =
+      let later : List (List ℕ) = p.0 ∷ bound in
+      keeps_then bound bound later run.step (λ _. log Open >> closing (bind names p)) (keeps_step bound)
+      (λ _. keeps_then bound bound later (log Open) (λ _. closing (bind names p)) (keeps_open bound)
+      (λ _. keeps_closing bound later (bind names p)
+      (keeps_then bound bound later (eval names p.1) (store names p.0) (keeps_eval bound p.1 live) (λ v. keeps_store bound p.0 v))))
+
+  ends_all : (b : Block) (bound : List (List ℕ)) → AllByRecursion (OfName names P) (live_from bound b) → Ends bound (exec_all names b)
+  ends_all empty bound q = λ m is. is.reads
+  ends_all (before s b) bound q =
+      let Q : List ℕ → Type 0 = OfName names P in
+      let o : Option (List ℕ × Tree) = assigned s in
+      let first : List (List ℕ) = live_in (is_in bound) (names_read o) in
+      let later : List (List ℕ) = live_from (with_bound (name_bound o) bound) b in
+      ends_then bound (with_bound (name_bound o) bound) (exec names s) (λ _. exec_all names b)
+      (keeps_assign bound o (if_live bound Q (names_read o) (each_left Q first later q)))
+      (λ _. ends_all b (with_bound (name_bound o) bound) (each_right Q first later q))
+
+  all_read : (values : Values) (steps : ℕ) (b : Block) → AllByRecursion (OfName names P) (live_names b) → AllReads (fold step start (events_from names values steps b)).reads
+  unfolding run_of
+  all_read values steps b q = ends_all b [] q (run.start values steps) (record { reads = tt; writes = λ name t. absurd (false≢true t) })
 
   -- what holds of the locations of live names holds of each start use
-  pub live_uses : (values : Values) (assigns : List Assign) → AllByRecursion (OfName names P) (live_names assigns) → (l : Loc)
-      → IsStartUse (events_from names values assigns) l → P l
-  live_uses values assigns q l c =
-      each_contains (λ (read : StartRead). P read.location) (summary_of (events_from names values assigns)).reads (record { location = l; how = ByUse })
-      (cell_reads assigns values [] start (λ name t. absurd (false≢true t)) q tt) c
+  pub live_uses : (values : Values) (steps : ℕ) (b : Block) → AllByRecursion (OfName names P) (live_names b) → (l : Loc)
+      → IsStartUse (events_from names values steps b) l → P l
+  live_uses values steps b q l c =
+      each_contains (λ (read : StartRead). P read.location) (summary_of (events_from names values steps b)).reads (record { location = l; how = ByUse })
+      (all_read values steps b q) c

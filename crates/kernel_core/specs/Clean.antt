@@ -11,9 +11,11 @@ use Rattle.trace_events.specs.declared.version.Version.{Version}
 use Rattle.trace_events.specs.Trace.{IsStartUse, summary_of}
 use Rattle.trace_events.specs.History.{History, made}
 use Rattle.trace_events.specs.Staleness.{Stale}
-use Rattle.kernel_core.specs.declared.state.Kept.{Kept}
+use Rattle.py_ast.specs.Statement.{Block}
+use Rattle.plain_cells.specs.Run.{events_from}
 use Rattle.kernel_core.specs.declared.state.State.{State}
-use Rattle.kernel_core.specs.Lineage.{events_from, version_now}
+use Rattle.kernel_core.specs.Lineage.{version_now}
+use Rattle.kernel_core.specs.Program.{program_of}
 
 -- ---- a run
 
@@ -39,15 +41,20 @@ pub record IsCleanRun (h : History) (events : List Event) (run : ℕ) (stale : L
 
 -- ---- a reply
 
-abbrev pub events_of_kept : State → Option Kept → List Event
-events_of_kept s None = []
-events_of_kept s (Some kept) = events_from s.names s.values kept.assigns
+abbrev pub events_of_program : State → ℕ → Option Block → List Event
+events_of_program s steps None = []
+events_of_program s steps (Some b) = events_from s.names s.values steps b
 
--- the events of a run of the cell in this state; a cell without a text does nothing
-abbrev pub events_of : State → List ℕ → List Event
-events_of s cell = events_of_kept s (map.get s.cells cell)
+abbrev pub events_of_text : State → ℕ → Option (List ℕ) → List Event
+events_of_text s steps None = []
+events_of_text s steps (Some text) = events_of_program s steps (program_of text)
 
--- A reply in this state that says `clean` of a run keeps what that promises, over the history that the state has.
+-- the events of a run of the cell in this state with so many steps; a cell that is not run does nothing
+abbrev pub events_of : State → List ℕ → ℕ → List Event
+events_of s cell steps = events_of_text s steps (map.get s.cells cell)
+
+-- A reply in this state that says `clean` of a run keeps what that promises, over the history that the state has, whatever steps the run
+-- was allowed.
 abbrev pub KeepsClean : State → Reply → Type 0
-KeepsClean s (Ran cell end mark out run stale) = mark ≡ Clean → IsCleanRun s.versions (events_of s cell) run stale
+KeepsClean s (Ran cell end mark out run stale) = mark ≡ Clean → (steps : ℕ) → IsCleanRun s.versions (events_of s cell steps) run stale
 KeepsClean s _ = Unit {0}

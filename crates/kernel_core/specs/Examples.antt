@@ -17,9 +17,9 @@ use Rattle.kernel_core.specs.State.{state_of}
 abbrev pub reply_after : List Accepted → List ℕ → Reply
 reply_after log cell = (answer_of (running log 100) (ask.Run cell None)).reply
 
--- that run uses, before it writes it, a location whose version run n wrote
-abbrev pub UsesRun : List Accepted → List ℕ → ℕ → Type 0
-UsesRun log cell n = (l : Loc) × IsStartUse (events_of (state_of log) cell) l × (run_of (version_now (state_of log).versions l) ≡ n)
+-- a run of the cell after this log that has so many steps uses, before it writes it, a location whose version run n wrote
+abbrev pub UsesRun : List Accepted → List ℕ → ℕ → ℕ → Type 0
+UsesRun log cell steps n = (l : Loc) × IsStartUse (events_of (state_of log) cell steps) l × (run_of (version_now (state_of log).versions l) ≡ n)
 
 -- cell a was run, and cell b is to use the name that a wrote
 abbrev pub uses_another : List Accepted

@@ -1,8 +1,7 @@
-pub mod Form
-pub mod Reading
-pub mod Run
+pub mod Program
 pub mod Lineage
 pub mod Marking
+pub mod Naming
 pub mod Clean
 pub mod State
 pub mod Kernel

@@ -1,6 +1,5 @@
--- What a run of a cell does, event by event; which names it finds as they stood before it; and what its mark and its stale
--- names are, by the history before it.
-use Rattle.std.specs.Prelude.{ℕ, List, [], ◌∷◌, ◌++◌, length, map, filter, Bool, true, false, not, ◌&&◌, Option, Some, None, option_map, Result, Ok, Err, codes}
+-- Which names a run of a plain cell finds as they stood before it; and what its mark and its stale names are, by the history before it.
+use Rattle.std.specs.Prelude.{ℕ, List, [], ◌∷◌, ◌++◌, length, map, filter, Bool, true, false, not, ◌&&◌, Option, Some, None, option_map, codes}
 use Rattle.std.specs.List.{filter_map, fold, list_any}
 use Rattle.std.specs.Ordering.{nat_cmp, ordering_then, match_ordering}
 use Rattle.std.specs.Cmp.Lexicographic.{slice_cmp}
@@ -8,13 +7,10 @@ use Rattle.std.specs.Str.{bytes_eq}
 use Rattle.std.specs.declared.cmp.Ordering.{Ordering}
 use Rattle.flow_base.specs.Names.{symbol_of}
 use Rattle.flow_base.specs.declared.event.Event.{Event}
-use Rattle.flow_base.specs.declared.event.Event.TheVariants.{Use, Write, Open, Close}
-use Rattle.flow_base.specs.declared.event.How.TheVariants.{Normal, Raise}
 use Rattle.flow_base.specs.declared.event.ReadHow.{ReadHow}
 use Rattle.flow_base.specs.declared.event.ReadHow.TheVariants.{Use as ByUse, Place as ByPlace}
 use Rattle.flow_base.specs.declared.loc.Loc.{Loc}
 use Rattle.flow_base.specs.declared.loc.Loc.TheVariants.{Name as at_name}
-use Rattle.flow_base.specs.declared.numbers.Sym.{Sym}
 use Rattle.flow_wire.specs.declared.reply.MarkText.{MarkText}
 use Rattle.flow_wire.specs.declared.reply.MarkText.TheVariants.{Clean, Stale}
 use Rattle.trace_events.specs.declared.summary.StartRead.{StartRead}
@@ -24,69 +20,28 @@ use Rattle.trace_events.specs.History.{History, current, location_of}
 use Rattle.trace_events.specs.Decided.{is_stale}
 use Rattle.trace_events.specs.Order.{text_of}
 use Rattle.trace_events.specs.Why.{Reason, least, why_of}
-use Rattle.kernel_core.specs.declared.form.Atom.{Atom}
-use Rattle.kernel_core.specs.declared.form.Atom.TheVariants.{Name, Number}
-use Rattle.kernel_core.specs.declared.form.Assign.{Assign}
-use Rattle.kernel_core.specs.declared.run.End.{End}
-use Rattle.kernel_core.specs.declared.run.End.TheVariants.{Done, NameError, Range}
-use Rattle.kernel_core.specs.Form.{name_of}
-use Rattle.kernel_core.specs.Run.{Values, worth, plus, sum_from, with_value}
-
--- ---- events
-
--- a name is a location of the global frame, which is object 0
-abbrev pub global : Sym → Loc
-global s = at_name (record { 0 = 0 }) s
-
-abbrev pub event_at : (Loc → Event) → Option Sym → List Event
-event_at event None = []
-event_at event (Some s) = event (global s) ∷ []
-
--- a number is no event, and a name is used, also one that has no value
-abbrev pub atom_events : List (List ℕ) → Atom → List Event
-atom_events names (Name name) = event_at Use (symbol_of names name)
-atom_events names (Number n) = []
-
-abbrev pub then_events : Result ℕ End → (ℕ → List Event) → List Event
-then_events (Ok n) next = next n
-then_events (Err end) next = []
-
--- the atoms up to the one that ends the sum, that one included
-abbrev pub sum_events : List (List ℕ) → Values → ℕ → List Atom → List Event
-sum_events names values n [] = []
-sum_events names values n (atom ∷ atoms) =
-    atom_events names atom ++ then_events (plus n (worth names values atom)) (λ total. sum_events names values total atoms)
-
--- a name without a value is raised, and a sum over the largest value ends the run at once
-abbrev pub end_events : End → List Event
-end_events Done = []
-end_events NameError = Close Raise ∷ []
-end_events Range = []
-
--- a line with a sum writes its name and ends normally, and the run goes on
-abbrev pub line_events : List (List ℕ) → List ℕ → Result ℕ End → (ℕ → List Event) → List Event
-line_events names name (Ok n) next = event_at Write (symbol_of names name) ++ Close Normal ∷ next n
-line_events names name (Err end) next = end_events end
-
-abbrev pub events_from : List (List ℕ) → Values → List Assign → List Event
-events_from names values [] = []
-events_from names values (assign ∷ assigns) =
-    Open ∷ (sum_events names values 0 assign.sum
-    ++ line_events names assign.name (sum_from names values 0 assign.sum) (λ n. events_from names (with_value names values assign.name n) assigns))
+use Rattle.py_ast.specs.Statement.{Block, empty, then as before}
+use Rattle.plain_cells.specs.Plain.{assigned, name_bound, names_read}
+use Rattle.plain_cells.specs.Run.{global}
 
 -- ---- live names
 
 abbrev pub is_in : List (List ℕ) → List ℕ → Bool
 is_in texts text = list_any (λ t. bytes_eq t text) texts
 
--- the names that some line uses and no earlier line binds
-abbrev pub live_from : List (List ℕ) → List Assign → List (List ℕ)
-live_from bound [] = []
-live_from bound (assign ∷ assigns) =
-    filter (λ name. not (is_in bound name)) (filter_map name_of assign.sum) ++ live_from (assign.name ∷ bound) assigns
+-- with the name to which a statement gives a value, if it does
+abbrev pub with_bound : Option (List ℕ) → List (List ℕ) → List (List ℕ)
+with_bound None bound = bound
+with_bound (Some name) bound = name ∷ bound
 
-abbrev pub live_names : List Assign → List (List ℕ)
-live_names assigns = live_from [] assigns
+-- the names that some statement uses and no earlier statement binds
+abbrev pub live_from : List (List ℕ) → Block → List (List ℕ)
+live_from bound empty = []
+live_from bound (before s b) =
+    filter (λ name. not (is_in bound name)) (names_read (assigned s)) ++ live_from (with_bound (name_bound (assigned s)) bound) b
+
+abbrev pub live_names : Block → List (List ℕ)
+live_names b = live_from [] b
 
 -- ---- the mark
 
@@ -94,8 +49,8 @@ live_names assigns = live_from [] assigns
 abbrev pub version_now : History → Loc → Version
 version_now h l = current h (length h) l
 
-abbrev pub live_versions : List (List ℕ) → History → List Assign → List Version
-live_versions names h assigns = filter_map (λ name. option_map (λ s. version_now h (global s)) (symbol_of names name)) (live_names assigns)
+abbrev pub live_versions : List (List ℕ) → History → Block → List Version
+live_versions names h b = filter_map (λ name. option_map (λ s. version_now h (global s)) (symbol_of names name)) (live_names b)
 
 -- the text of a location: the name
 abbrev pub path_of : List (List ℕ) → Option Loc → List ℕ
@@ -112,8 +67,8 @@ mark_for names h None = Clean
 mark_for names h (Some v) = stale_mark names h v (why_of names h (length h) v)
 
 -- clean, unless the current version of some live name is stale; then the least such version, and why it is stale
-abbrev pub mark_of : List (List ℕ) → History → List Assign → MarkText
-mark_of names h assigns = mark_for names h (least names (filter (is_stale h (length h)) (live_versions names h assigns)))
+abbrev pub mark_of : List (List ℕ) → History → Block → MarkText
+mark_of names h b = mark_for names h (least names (filter (is_stale h (length h)) (live_versions names h b)))
 
 -- ---- the stale names that a run used
 

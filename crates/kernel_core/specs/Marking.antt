@@ -10,9 +10,8 @@ use Rattle.trace_events.specs.declared.version.Version.{Version}
 use Rattle.trace_events.specs.declared.version.Version.TheVariants.{Written}
 use Rattle.trace_events.specs.History.{History}
 use Rattle.trace_events.specs.Decided.{is_stale}
-use Rattle.kernel_core.specs.declared.form.Atom.{Atom}
-use Rattle.kernel_core.specs.Form.{name_of}
-use Rattle.kernel_core.specs.Lineage.{global, version_now}
+use Rattle.plain_cells.specs.Run.{global}
+use Rattle.kernel_core.specs.Lineage.{version_now}
 
 -- ---- live names
 
@@ -24,9 +23,9 @@ abbrev pub unless_bound : Bool → List ℕ → List (List ℕ)
 unless_bound true name = []
 unless_bound false name = name ∷ []
 
--- the names among the atoms that the test does not pass
-abbrev pub live_in : (List ℕ → Bool) → List Atom → List (List ℕ)
-live_in is_bound atoms = filter (λ name. not (is_bound name)) (filter_map name_of atoms)
+-- the names that the test does not pass
+abbrev pub live_in : (List ℕ → Bool) → List (List ℕ) → List (List ℕ)
+live_in is_bound used = filter (λ name. not (is_bound name)) used
 
 -- ---- versions, each as its run and its place
 

@@ -1,15 +1,16 @@
 // Laws of the answers.
-ghost use Rattle.std.specs.Prelude.{◌≡◌, ◌∷◌, List, [], true, codes};
+ghost use Rattle.std.specs.Prelude.{◌≡◌, ◌∷◌, ℕ, List, [], true, codes};
 ghost use Rattle.flow_wire.specs.declared.ask.Ask.{Ask};
 ghost use Rattle.flow_wire.specs.Replied.{is_refusal};
-ghost use Rattle.kernel_core.specs.Kernel.{Held};
 ghost use Rattle.flow_wire.specs.declared.reply.MarkText.TheVariants.{Clean};
+ghost use Rattle.py_ast.specs.Statement.{Block};
+ghost use Rattle.plain_cells.specs.Run.{events_from};
 ghost use Rattle.kernel_core.specs.declared.accepted.Accepted.{Accepted};
-ghost use Rattle.kernel_core.specs.declared.state.Kept.{Kept};
 ghost use Rattle.kernel_core.specs.Answer.{answer_of};
 ghost use Rattle.kernel_core.specs.Clean.{HasNoStaleUse, KeepsClean, LeavesNoStale};
 ghost use Rattle.kernel_core.specs.Examples.{UsesRun, reply_after, uses_another, uses_outdated};
-ghost use Rattle.kernel_core.specs.Lineage.{events_from, mark_of, stale_paths};
+ghost use Rattle.kernel_core.specs.Kernel.{Held};
+ghost use Rattle.kernel_core.specs.Lineage.{mark_of, stale_paths};
 ghost use Rattle.kernel_core.specs.State.{state_of};
 
 use flow_wire::{EndText, MarkText, Reply};
@@ -21,17 +22,17 @@ pub fn answer_law()
 {}
 
 /// A run that is marked clean uses nothing stale, names nothing stale, and leaves nothing stale, over the history that the
-/// log has.
+/// log has, whatever steps it was allowed.
 pub fn clean_law()
-    ensures uses { (log : List Accepted) (kept : Kept) → let s = state_of log in
-        mark_of s.names s.versions kept.assigns ≡ Clean
-        → HasNoStaleUse s.versions (events_from s.names s.values kept.assigns) }
-    ensures leaves { (log : List Accepted) (kept : Kept) → let s = state_of log in
-        mark_of s.names s.versions kept.assigns ≡ Clean
-        → LeavesNoStale s.versions (events_from s.names s.values kept.assigns) }
-    ensures names { (log : List Accepted) (kept : Kept) → let s = state_of log in
-        mark_of s.names s.versions kept.assigns ≡ Clean
-        → stale_paths s.names s.versions (events_from s.names s.values kept.assigns) ≡ [] }
+    ensures uses { (log : List Accepted) (b : Block) (steps : ℕ) → let s = state_of log in
+        mark_of s.names s.versions b ≡ Clean
+        → HasNoStaleUse s.versions (events_from s.names s.values steps b) }
+    ensures leaves { (log : List Accepted) (b : Block) (steps : ℕ) → let s = state_of log in
+        mark_of s.names s.versions b ≡ Clean
+        → LeavesNoStale s.versions (events_from s.names s.values steps b) }
+    ensures names { (log : List Accepted) (b : Block) (steps : ℕ) → let s = state_of log in
+        mark_of s.names s.versions b ≡ Clean
+        → stale_paths s.names s.versions (events_from s.names s.values steps b) ≡ [] }
 {}
 
 /// A reply that says `clean` of a run keeps what that promises, over the history that the log before it has.
@@ -41,13 +42,13 @@ pub fn clean_reply_law()
 
 /// A run that uses what another run wrote, and is clean.
 pub fn clean_run_law()
-    ensures uses { UsesRun uses_another (codes "b") 1 }
+    ensures uses { UsesRun uses_another (codes "b") 100 1 }
     ensures reply { reply_after uses_another (codes "b") ≡ Reply.Ran (codes "b") EndText.Ok MarkText.Clean [] 2 [] }
 {}
 
 /// A run that uses what is outdated: run 2 computed it from `x`, which run 3 has overwritten.
 pub fn stale_run_law()
-    ensures uses { UsesRun uses_outdated (codes "c") 2 }
+    ensures uses { UsesRun uses_outdated (codes "c") 100 2 }
     ensures reply { reply_after uses_outdated (codes "c")
         ≡ Reply.Ran (codes "c") EndText.Ok (MarkText.Stale 2 (codes "x") 3 (codes "y")) [] 4 (codes "y" ∷ []) }
 {}

@@ -1,20 +1,24 @@
 // The mark of a cell and the stale names that a run uses, by the history before the run.
-ghost use Rattle.std.specs.Prelude.{◌≡◌, ◌≤◌, ◌&&◌, ℕ, List, [], ◌∷◌, ◌++◌, IfOk, OnOk, length, option_map};
+ghost use Rattle.std.specs.Prelude.{◌≡◌, ◌≤◌, ◌&&◌, ◌||◌, ℕ, List, [], ◌∷◌, ◌++◌, IfOk, OnOk, length, option_map};
 ghost use Rattle.std.specs.Ordering.{is_lt};
 ghost use Rattle.std.specs.Option.{option_copied};
 ghost use Rattle.dependence_graph.specs.Marks.{IsExact};
 ghost use Rattle.kernel_core.specs.Lineage as spec;
 ghost use Rattle.kernel_core.specs.Marking as pass;
+ghost use Rattle.kernel_core.specs.Naming.{binds};
+ghost use Rattle.plain_cells.specs.Plain.{assigned, block_kept, name_bound, names_read};
+ghost use Rattle.plain_cells.specs.Run as meaning;
+ghost use Rattle.py_ast.specs.Statement.{view_stmt};
 ghost use Rattle.trace_events.specs.Decided.{is_stale};
 ghost use Rattle.trace_events.specs.Order.{text_of, version_cmp};
 ghost use Rattle.trace_events.specs.Why.{least, lesser, why_of};
 
-use crate::form::{Assign, Atom};
-use crate::run::global;
-use crate::table::Table;
+use containers::Table;
 use dependence_graph::Graph;
-use flow_base::{Loc, Names, NoMemory, PyText, ReadHow, RunNo, Shared, Sym};
+use flow_base::{Loc, Names, NoMemory, ObjRef, PyText, ReadHow, RunNo, Shared, Sym};
 use flow_wire::{MarkText, TextList};
+use plain_cells::{bound_name, used_names};
+use py_ast::Stmt;
 use std::alloc::Global;
 use std::cmp::Ordering;
 use trace_events::{StartRead, Summary, Version};
@@ -26,12 +30,12 @@ pub fn mark(
     names: &Names,
     versions: &Versions,
     graph: &Graph,
-    assigns: &[Assign],
+    statements: &[Stmt],
 ) -> Result<MarkText, NoMemory>
     requires { IsExact versions.now graph.now.stale }
-    ensures { IfOk result (λ mark. mark ≡ spec.mark_of names.now versions.now assigns.now) }
+    ensures { IfOk result (λ mark. mark ≡ spec.mark_of names.now versions.now (block_kept statements.now)) }
 {
-    let live = live_names(alloc, assigns)?;
+    let live = live_names(alloc, statements)?;
     let stale = stale_versions(alloc, names, versions, graph, live.as_slice())?;
     match least(stale) {
         Some((run, place)) => {
@@ -64,26 +68,46 @@ pub fn stale_paths(
 
 // ---- live names
 
-// The names that some line uses and no earlier line binds.
-fn live_names(alloc: Global, assigns: &[Assign]) -> Result<Vec<PyText>, NoMemory>
-    ensures { IfOk result (λ live. live.items ≡ spec.live_names assigns.now) }
+// The names that some statement uses and no earlier statement binds.
+fn live_names(alloc: Global, statements: &[Stmt]) -> Result<Vec<PyText>, NoMemory>
+    ensures { IfOk result (λ live. live.items ≡ spec.live_names (block_kept statements.now)) }
 {
     let mut live = Vec::new(alloc);
     let mut bound = Table::new(alloc);
-    for assign in assigns {
-        add_live(&bound, assign.sum.as_slice(), &mut live)?;
-        bound.set(&assign.name, ())?;
+    for s in statements {
+        add_used(alloc, &bound, s, &mut live)?;
+        add_bound(&mut bound, s)?;
     }
     Ok(live)
 }
 
-fn add_live(bound: &Table<()>, atoms: &[Atom], live: &mut Vec<PyText>) -> Result<(), NoMemory>
-    ensures { OnOk result (live.new.items ≡ live.old.items ++ pass.live_in (pass.has_name bound.now) atoms.now) }
+fn add_used(
+    alloc: Global,
+    bound: &Table<()>,
+    s: &Stmt,
+    live: &mut Vec<PyText>,
+) -> Result<(), NoMemory>
+    ensures { OnOk result (live.new.items ≡ live.old.items ++ pass.live_in (pass.has_name bound.now) (names_read (assigned (view_stmt s.now)))) }
 {
-    for atom in atoms {
-        if let Atom::Name(name) = atom {
-            add_unbound(bound, name, live)?;
-        }
+    let used = used_names(alloc, s)?;
+    add_live(bound, used.as_slice(), live)
+}
+
+fn add_bound(bound: &mut Table<()>, s: &Stmt) -> Result<(), NoMemory>
+    ensures { OnOk result ((other : List ℕ) → pass.has_name bound.new other
+        ≡ (binds (name_bound (assigned (view_stmt s.now))) other || pass.has_name bound.old other)) }
+{
+    if let Some(name) = bound_name(s) {
+        bound.set(name, ())?;
+    }
+    Ok(())
+}
+
+fn add_live(bound: &Table<()>, used: &[PyText], live: &mut Vec<PyText>) -> Result<(), NoMemory>
+    ensures { OnOk result (live.new.items ≡ live.old.items ++ pass.live_in (pass.has_name bound.now) used.now) }
+{
+    for name in used {
+        add_unbound(bound, name, live)?;
     }
     Ok(())
 }
@@ -98,6 +122,13 @@ fn add_unbound(bound: &Table<()>, name: &PyText, live: &mut Vec<PyText>) -> Resu
 }
 
 // ---- stale versions
+
+// A name is a location of the global frame, which is object 0.
+fn global(s: Sym) -> Loc
+    ensures { result ≡ meaning.global s }
+{
+    Loc::Name(ObjRef(0), s)
+}
 
 // The stale ones among the versions that the names have.
 fn stale_versions(

@@ -1,36 +1,20 @@
 // What a session has come to.
-ghost use Rattle.std.specs.Prelude.{◌≡◌, [], ◌∷◌, ◌++◌, IfOk, OnOk, Ok};
-ghost use Rattle.std.specs.List.{filter_map};
-ghost use Rattle.kernel_core.specs.Form.{name_of};
+ghost use Rattle.std.specs.Prelude.{◌≡◌, [], ◌∷◌, ◌++◌, IfOk, OnOk};
+ghost use Rattle.plain_cells.specs.Plain.{assigned, block_kept, name_bound, names_in, names_read};
+ghost use Rattle.py_ast.specs.Statement.{view_stmt};
+ghost use Rattle.kernel_core.specs.Naming.{one_name};
+ghost use Rattle.kernel_core.specs.Program.{names_of, program_of};
+ghost use Rattle.kernel_core.specs.State.{with_names};
 
-use crate::form::{Assign, Atom, Cell};
-use crate::run::{End, run};
-use crate::sequence::Sequence;
-use crate::table::Table;
-use crate::values::Values;
+use crate::kept::Kept;
+use containers::{Sequence, Table, Values};
 use flow_base::{Names, NoMemory, PyText, RunNo};
+use plain_cells::{End, Finished, bound_name, run, used_names};
+use py_ast::Stmt;
 use std::alloc::Global;
+use std::mem;
 use trace_events::{Summary, summarize};
 use version_store::Versions;
-
-/// The accepted text of a cell, and the lines that it spells.
-#[derive(Drop)]
-pub struct Kept {
-    pub text: PyText,
-    pub assigns: Cell,
-}
-
-impl Kept {
-    /// The same text and lines, in the same memory.
-    pub fn copy(&self) -> Result<Kept, NoMemory>
-        ensures { IfOk result (λ kept. kept ≡ self.now) }
-    {
-        Ok(Kept {
-            text: self.text.copy()?,
-            assigns: self.assigns.copy()?,
-        })
-    }
-}
 
 /// A run: its cell, the text that the cell had, its allowance of steps, and how it ended. Its number is its place, from 1.
 #[derive(Drop)]
@@ -41,15 +25,15 @@ pub struct Ran {
     pub end: End,
 }
 
-/// How the lines of a cell end, and what is kept of what they do.
+/// How the statements of a cell end, and what is kept of what they do.
 #[derive(Drop)]
 pub struct Computed {
     pub end: End,
     pub summary: Summary,
 }
 
-/// The accepted texts, the names that stood in them, the values of those names, and the runs and what is kept of what each
-/// did, first run first.
+/// The accepted texts, the names that stood in what is run of them, the values of those names, and the runs and what is kept of what
+/// each did, first run first.
 #[derive(Drop)]
 pub struct State {
     pub cells: Table<Kept>,
@@ -60,9 +44,8 @@ pub struct State {
 }
 
 impl State {
-    ghost use Rattle.kernel_core.specs.Lineage.{events_from};
-    ghost use Rattle.kernel_core.specs.Run.{run_from};
-    ghost use Rattle.kernel_core.specs.State.{empty_state, edited};
+    ghost use Rattle.plain_cells.specs.Run.{events_from, run_of};
+    ghost use Rattle.kernel_core.specs.State.{empty_state, put_text};
     ghost use Rattle.trace_events.specs.Trace.{summary_of};
 
     /// Nothing was accepted. Takes no memory.
@@ -78,41 +61,46 @@ impl State {
         }
     }
 
-    /// Gives a cell a text that spells these lines. Where memory is wanting, nothing is said of the state.
-    pub fn edit(&mut self, cell: &PyText, text: &PyText, assigns: Cell) -> Result<(), NoMemory>
-        ensures { OnOk result (self.new ≡ edited self.old cell.now text.now (Ok assigns)) }
+    /// Gives a cell an accepted text. Where memory is wanting, nothing is said of the state.
+    pub fn edit(&mut self, alloc: Global, cell: &PyText, kept: Kept) -> Result<(), NoMemory>
+        ensures { OnOk result (self.new ≡ put_text self.old cell.now kept (program_of kept)) }
     {
-        intern_lines(&mut self.names, assigns.as_slice())?;
-        let kept = Kept {
-            text: text.copy()?,
-            assigns,
-        };
+        intern_program(alloc, &mut self.names, &kept)?;
         self.cells.set(cell, kept)
     }
 
-    /// Computes the lines of a cell. Nothing but the values changes.
-    pub fn compute(&mut self, alloc: Global, assigns: &[Assign]) -> Result<Computed, NoMemory>
-        ensures values { OnOk result (self.new ≡ record self.old { values = (run_from self.old.names self.old.values assigns.now).values }) }
-        ensures end { IfOk result (λ computed. computed.end ≡ (run_from self.old.names self.old.values assigns.now).end) }
-        ensures summary { IfOk result (λ computed. computed.summary ≡ summary_of (events_from self.old.names self.old.values assigns.now)) }
+    /// Runs the statements of a plain cell with at most so many steps. Nothing but the values changes. Where memory is wanting, nothing is
+    /// said of the state.
+    pub fn compute(
+        &mut self,
+        alloc: Global,
+        statements: &[Stmt],
+        steps: u32,
+    ) -> Result<Computed, NoMemory>
+        ensures values { OnOk result (self.new ≡ record self.old {
+          values = (run_of self.old.names self.old.values steps (block_kept statements.now)).1.values;
+        }) }
+        ensures end { IfOk result (λ computed. computed.end ≡ (run_of self.old.names self.old.values steps (block_kept statements.now)).0) }
+        ensures summary { IfOk result (λ computed.
+            computed.summary ≡ summary_of (events_from self.old.names self.old.values steps (block_kept statements.now))) }
     {
-        let mut events = Vec::new(alloc);
-        let end = run(&self.names, &mut self.values, assigns, &mut events)?;
-        let summary = summarize(alloc, events.as_slice())?;
+        let before = mem::replace(&mut self.values, Values::new(alloc));
+        let Finished { end, machine } = run(alloc, &self.names, before, steps, statements)?;
+        let summary = summarize(alloc, machine.events.as_slice())?;
+        self.values = machine.values;
         Ok(Computed { end, summary })
     }
 
-    /// Puts down a run of what is kept for a cell, whose lines were computed. `NoMemory` also stands for a number of runs
-    /// that is full, at 2^64 - 1.
+    /// Puts down a run of a text of a cell, which was computed. `NoMemory` also stands for a number of runs that is full, at 2^64 - 1.
     pub fn put_run(
         &mut self,
         cell: &PyText,
-        kept: Kept,
+        text: &PyText,
         steps: u32,
         computed: Computed,
     ) -> Result<(), NoMemory>
         ensures { OnOk result (self.new ≡ record self.old {
-          runs = self.old.runs ++ (record { cell = cell.now; text = kept.text; steps = steps; end = computed.end }) ∷ [];
+          runs = self.old.runs ++ (record { cell = cell.now; text = text.now; steps = steps; end = computed.end }) ∷ [];
           versions = self.old.versions ++ computed.summary ∷ [];
         }) }
     {
@@ -122,32 +110,55 @@ impl State {
         self.versions.add_run(RunNo(number), computed.summary)?;
         self.runs.push(Ran {
             cell: cell.copy()?,
-            text: kept.text,
+            text: text.copy()?,
             steps,
             end: computed.end,
         })
     }
 }
 
-ghost use Rattle.kernel_core.specs.State.{names_in, with_names};
+// ---- names
 
-fn intern_lines(names: &mut Names, assigns: &[Assign]) -> Result<(), NoMemory>
-    ensures { OnOk result (names.new ≡ with_names names.old (names_in assigns.now)) }
+fn intern_program(alloc: Global, names: &mut Names, kept: &Kept) -> Result<(), NoMemory>
+    ensures { OnOk result (names.new ≡ with_names names.old (names_of (program_of kept.now))) }
 {
-    for assign in assigns {
-        names.intern(&assign.name)?;
-        intern_atoms(names, assign.sum.as_slice())?;
+    match kept.program() {
+        Some(statements) => intern_block(alloc, names, statements.as_slice()),
+        None => Ok(()),
+    }
+}
+
+fn intern_block(alloc: Global, names: &mut Names, statements: &[Stmt]) -> Result<(), NoMemory>
+    ensures { OnOk result (names.new ≡ with_names names.old (names_in (block_kept statements.now))) }
+{
+    for s in statements {
+        intern_bound(names, s)?;
+        intern_used(alloc, names, s)?;
     }
     Ok(())
 }
 
-fn intern_atoms(names: &mut Names, atoms: &[Atom]) -> Result<(), NoMemory>
-    ensures { OnOk result (names.new ≡ with_names names.old (filter_map name_of atoms.now)) }
+fn intern_bound(names: &mut Names, s: &Stmt) -> Result<(), NoMemory>
+    ensures { OnOk result (names.new ≡ with_names names.old (one_name (name_bound (assigned (view_stmt s.now))))) }
 {
-    for atom in atoms {
-        if let Atom::Name(name) = atom {
-            names.intern(name)?;
-        }
+    if let Some(name) = bound_name(s) {
+        names.intern(name)?;
+    }
+    Ok(())
+}
+
+fn intern_used(alloc: Global, names: &mut Names, s: &Stmt) -> Result<(), NoMemory>
+    ensures { OnOk result (names.new ≡ with_names names.old (names_read (assigned (view_stmt s.now)))) }
+{
+    let used = used_names(alloc, s)?;
+    intern_all(names, used.as_slice())
+}
+
+fn intern_all(names: &mut Names, texts: &[PyText]) -> Result<(), NoMemory>
+    ensures { OnOk result (names.new ≡ with_names names.old texts.now) }
+{
+    for text in texts {
+        names.intern(text)?;
     }
     Ok(())
 }

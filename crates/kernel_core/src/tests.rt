@@ -1,69 +1,9 @@
-// Texts, runs and refusals, as a session shows them.
-use crate::form::{FormFault, read_cell};
-use crate::state::State;
-use crate::{End, Kernel, answer_law, clean_law, clean_reply_law, clean_run_law, stale_run_law};
+// Asks and their replies, as a session shows them.
+use crate::{Kernel, answer_law, clean_law, clean_reply_law, clean_run_law, stale_run_law};
 use flow_base::{NoMemory, PyText};
 use flow_wire::{Ask, MarkText, Reply, write_reply};
 use std::alloc::Global;
 use std::test::Fail;
-
-// The line at which a text is refused, and 0 where it is accepted.
-fn refused_at(alloc: Global, text: &str) -> Result<u64, NoMemory> {
-    let text = PyText::from_str(alloc, text)?;
-    match read_cell(alloc, &text) {
-        Ok(_) => Ok(0),
-        Err(FormFault::At(line)) => Ok(line),
-        Err(FormFault::NoMemory) => Err(NoMemory),
-    }
-}
-
-// So many lines, of which one, counted from 1, is not of the form.
-fn refused_line(alloc: Global, lines: u64, bad: u64) -> Result<u64, NoMemory> {
-    let mut text = String::new(alloc);
-    for line in 0..lines {
-        text.push_str(if line + 1 == bad { "x =\n" } else { "x = 1\n" })?;
-    }
-    refused_at(alloc, text.as_str())
-}
-
-#[test]
-fn reads_texts(rt: HostRuntime) -> Result<(), Fail> {
-    let alloc = rt.alloc();
-    for (text, line) in [
-        ("", 1),
-        ("\n", 1),
-        ("x = 1\n", 0),
-        ("x = 1\n\n", 2),
-        ("x = 1\nX = 1", 2),
-        ("x1 = y2 + 0", 0),
-        ("x =  1", 1),
-        ("x = 1 ", 1),
-        ("x = 1\r\n", 1),
-        ("x = 01", 1),
-        ("x = 1 +", 1),
-        ("x = 1 - 1", 1),
-        ("xy = 1", 1),
-        ("1 = x", 1),
-        ("a123456789012345 = 1", 0),
-        ("a1234567890123456 = 1", 1),
-        ("x = 123456789012345678901234567890", 0),
-        ("x = 1234567890123456789012345678901", 1),
-        (
-            "x = 1 + 1 + 1 + 1 + 1 + 1 + 1 + 1 + 1 + 1 + 1 + 1 + 1 + 1 + 1 + 1 + 1 + 1 + 1 + 1",
-            0,
-        ),
-        (
-            "x = 1 + 1 + 1 + 1 + 1 + 1 + 1 + 1 + 1 + 1 + 1 + 1 + 1 + 1 + 1 + 1 + 1 + 1 + 1 + 1 + 1",
-            1,
-        ),
-    ] {
-        assert_eq!(rt; refused_at(alloc, text)?, line);
-    }
-    assert_eq!(rt; refused_line(alloc, 100, 0)?, 0);
-    assert_eq!(rt; refused_line(alloc, 101, 0)?, 101);
-    assert_eq!(rt; refused_line(alloc, 101, 3)?, 3);
-    Ok(())
-}
 
 // An edit where there is a text, and else a run.
 fn ask(alloc: Global, cell: &str, text: Option<&str>, steps: Option<u64>) -> Result<Ask, NoMemory> {
@@ -82,6 +22,39 @@ fn answers(alloc: Global, kernel: &mut Kernel, a: &Ask, want: &str) -> Result<bo
     Ok(write_reply(alloc, &reply)?.as_slice() == want.as_bytes())
 }
 
+// Each kind of fault, at the line where it stands, in the order of the kinds.
+#[test]
+fn refuses_texts(rt: HostRuntime) -> Result<(), Fail> {
+    let alloc = rt.alloc();
+    let mut kernel = Kernel::new(alloc, 1_000_000)?;
+    for (text, want) in [
+        ("x = $", r#"{"kind":"lex","line":1,"refused":"syntax"}"#),
+        (
+            "if x:\n  y\n z",
+            r#"{"kind":"layout","line":3,"refused":"syntax"}"#,
+        ),
+        (
+            "import os",
+            r#"{"kind":"unsupported","line":1,"refused":"syntax"}"#,
+        ),
+        (
+            "x = 170141183460469231731687303715884105728",
+            r#"{"kind":"limit","line":1,"refused":"syntax"}"#,
+        ),
+        ("x =", r#"{"kind":"syntax","line":1,"refused":"syntax"}"#),
+        (
+            "nonlocal x",
+            r#"{"kind":"scope","line":1,"refused":"syntax"}"#,
+        ),
+    ] {
+        let a = ask(alloc, "a", Some(text), None)?;
+        assert!(rt; answers(alloc, &mut kernel, &a, want)?);
+    }
+    let a = ask(alloc, "a", None, None)?;
+    assert!(rt; answers(alloc, &mut kernel, &a, r#"{"refused":"no cell"}"#)?);
+    Ok(())
+}
+
 #[test]
 fn answers_asks(rt: HostRuntime) -> Result<(), Fail> {
     let alloc = rt.alloc();
@@ -94,74 +67,93 @@ fn answers_asks(rt: HostRuntime) -> Result<(), Fail> {
     for (cell, text, steps, want) in [
         (
             "a",
-            Some("x = 1\ny = q"),
+            Some("x = 1 + 2"),
             None,
             r#"{"cell":"a","edited":true}"#,
         ),
         (
             "a",
             None,
-            None,
-            r#"{"cell":"a","end":{"raised":"NameError"},"mark":"clean","out":"","run":1,"stale":[]}"#,
+            Some(4),
+            r#"{"cell":"a","end":"ok","mark":"clean","out":"","run":1,"stale":[]}"#,
         ),
-        ("b", Some("z = x"), None, r#"{"cell":"b","edited":true}"#),
+        (
+            "a",
+            None,
+            Some(3),
+            r#"{"cell":"a","end":"steps","mark":"clean","out":"","run":2,"stale":[]}"#,
+        ),
+        ("b", Some("x = len"), None, r#"{"cell":"b","edited":true}"#),
+        ("c", None, Some(10_000_001), r#"{"refused":"no cell"}"#),
+        ("b", None, Some(10_000_001), r#"{"refused":"steps"}"#),
+        ("b", None, Some(10_000_000), r#"{"refused":"form"}"#),
+        ("b", Some("len = 3"), None, r#"{"cell":"b","edited":true}"#),
         (
             "b",
             None,
             None,
-            r#"{"cell":"b","end":"ok","mark":"clean","out":"","run":2,"stale":[]}"#,
+            r#"{"cell":"b","end":"ok","mark":"clean","out":"","run":3,"stale":[]}"#,
         ),
         (
             "b",
-            Some("z = q\n z"),
+            Some("z = 1\nprint(z)"),
+            None,
+            r#"{"cell":"b","edited":true}"#,
+        ),
+        ("b", None, None, r#"{"refused":"form"}"#),
+        ("d", Some("y = x"), None, r#"{"cell":"d","edited":true}"#),
+        (
+            "d",
+            Some("y = 1\nz ="),
             None,
             r#"{"kind":"syntax","line":2,"refused":"syntax"}"#,
         ),
-        ("c", None, Some(10_000_001), r#"{"refused":"no cell"}"#),
-        ("b", None, Some(10_000_001), r#"{"refused":"steps"}"#),
         (
-            "b",
+            "d",
             None,
             Some(10_000_000),
-            r#"{"cell":"b","end":"ok","mark":"clean","out":"","run":3,"stale":[]}"#,
+            r#"{"cell":"d","end":"ok","mark":"clean","out":"","run":4,"stale":[]}"#,
+        ),
+        (
+            "e",
+            Some("x = 1\ny = q"),
+            None,
+            r#"{"cell":"e","edited":true}"#,
+        ),
+        (
+            "e",
+            None,
+            None,
+            r#"{"cell":"e","end":{"raised":"NameError"},"mark":"clean","out":"","run":5,"stale":[]}"#,
+        ),
+        (
+            "f",
+            Some("x = 170141183460469231731687303715884105727\nx = x + 1"),
+            None,
+            r#"{"cell":"f","edited":true}"#,
+        ),
+        (
+            "f",
+            None,
+            None,
+            r#"{"cell":"f","end":"range","mark":"clean","out":"","run":6,"stale":[]}"#,
         ),
     ] {
         let a = ask(alloc, cell, text, steps)?;
         assert!(rt; answers(alloc, &mut kernel, &a, want)?);
     }
-    assert!(rt; !kernel.failed());
-    Ok(())
-}
-
-// How the run of a cell ends that is given this text.
-fn end_of(alloc: Global, state: &mut State, text: &str) -> Result<End, NoMemory> {
-    let cell = PyText::from_str(alloc, "c")?;
-    let text = PyText::from_str(alloc, text)?;
-    let Ok(assigns) = read_cell(alloc, &text) else {
-        return Err(NoMemory);
+    let show = Ask::Show {
+        cell: PyText::from_str(alloc, "d")?,
     };
-    state.edit(&cell, &text, assigns.copy()?)?;
-    let computed = state.compute(alloc, assigns.as_slice())?;
-    Ok(computed.end)
-}
-
-// 10^29 * 2^30 is below 2^127, and 10^29 * 2^31 is not.
-#[test]
-fn ends_at_the_largest_value(rt: HostRuntime) -> Result<(), Fail> {
-    let alloc = rt.alloc();
-    let mut state = State::new(alloc);
-    let first = end_of(alloc, &mut state, "x = 100000000000000000000000000000")?;
-    assert_eq!(rt; first, End::Done);
-    for _ in 0..30 {
-        assert_eq!(rt; end_of(alloc, &mut state, "x = x + x")?, End::Done);
-    }
-    for (text, end) in [
-        ("y = 1\nx = x + x", End::Range),
-        ("z = x + y", End::Done),
-        ("z = x + x", End::Range),
-    ] {
-        assert_eq!(rt; end_of(alloc, &mut state, text)?, end);
-    }
+    assert!(rt;
+        answers(
+            alloc,
+            &mut kernel,
+            &show,
+            r#"{"kind":"shape","refused":"event"}"#
+        )?
+    );
+    assert!(rt; !kernel.failed());
     Ok(())
 }
 

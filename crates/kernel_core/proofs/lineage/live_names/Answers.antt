@@ -1,26 +1,30 @@
 use Rattle.std.proofs.Common.{◌≡◌, ◌∙◌, ◌+◌, ◌∷◌, ◌++◌, drop, ap, sym, append_assoc}
 use Rattle.std.proofs.lemmas.List.{drop_more}
-use Rattle.kernel_core.specs.declared.form.Assign.{Assign}
+use Rattle.py_ast.specs.Statement.{view_stmt}
+use Rattle.py_ast.specs.declared.stmt.Stmt.{Stmt}
+use Rattle.plain_cells.specs.Plain.{assigned, block_kept, names_read}
 use Rattle.kernel_core.specs.Marking.{has_name, live_in}
 use Rattle.kernel_core.proofs.LineageLaws.{live_at_start, live_by, live_step}
 use Rattle.kernel_core.proofs.lineage.live_names.Goals as goal
 
-pub loop-assign-init : goal.loop-assign-init
-loop-assign-init c =
-    ap (λ xs. xs ++ live_by (has_name c.new-bound.result) c.args.assigns.now) c.new-live.ensures.items
-    ∙ ap (λ m. live_by (has_name m) c.args.assigns.now) c.new-bound.ensures
-    ∙ live_at_start _ c.args.assigns.now
+pub loop-s-init : goal.loop-s-init
+loop-s-init c =
+    ap (λ xs. xs ++ live_by (has_name c.new-bound.result) (block_kept c.args.statements.now)) c.new-live.ensures.items
+    ∙ ap (λ m. live_by (has_name m) (block_kept c.args.statements.now)) c.new-bound.ensures
+    ∙ live_at_start _ (block_kept c.args.statements.now)
 
-pub loop-assign-preserved : goal.loop-assign-preserved
-loop-assign-preserved c =
-    let bound = c.loop-assign.bound in
-    let item = c.assign-item.result in
-    let more = drop (c.loop-assign.assign-index + 1) c.args.assigns.now in
-    let all : drop c.loop-assign.assign-index c.args.assigns.now ≡ item ∷ more =
-    drop_more c.args.assigns.now c.loop-assign.assign-index item c.loop-assign-test.true ∙ ap (λ (a : Assign). a ∷ more) (sym c.assign-item.is) in
-    ap (λ xs. xs ++ live_by (has_name c.set.new.self) more)
-    (c.in_ok-add_live.ensures ∙ ap (λ s. c.loop-assign.live.items ++ live_in (has_name bound) s) c.as_slice.ensures)
-    ∙ append_assoc c.loop-assign.live.items (live_in (has_name bound) item.sum) (live_by (has_name c.set.new.self) more)
-    ∙ ap (λ m. c.loop-assign.live.items ++ (live_in (has_name bound) item.sum ++ live_by (has_name m) more)) c.in_ok-set.ensures.ok
-    ∙ ap (λ xs. c.loop-assign.live.items ++ xs) (sym (live_step bound _ item more) ∙ ap (live_by (has_name bound)) (sym all))
-    ∙ c.loop-assign.invariant
+pub loop-s-preserved : goal.loop-s-preserved
+loop-s-preserved c =
+    let bound = c.loop-s.bound in
+    let item = c.s-item.result in
+    let more = drop (c.loop-s.s-index + 1) c.args.statements.now in
+    let all : drop c.loop-s.s-index c.args.statements.now ≡ item ∷ more =
+    drop_more c.args.statements.now c.loop-s.s-index item c.loop-s-test.true ∙ ap (λ (s : Stmt). s ∷ more) (sym c.s-item.is) in
+    let first = live_in (has_name bound) (names_read (assigned (view_stmt item))) in
+    let later = live_by (has_name c.add_bound.new.bound) (block_kept more) in
+    ap (λ xs. xs ++ later) c.in_ok-add_used.ensures
+    ∙ append_assoc c.loop-s.live.items first later
+    ∙ ap (λ xs. c.loop-s.live.items ++ xs)
+    (sym (live_step (has_name bound) (has_name c.add_bound.new.bound) item more c.in_ok-add_bound.ensures)
+    ∙ ap (λ statements. live_by (has_name bound) (block_kept statements)) (sym all))
+    ∙ c.loop-s.invariant
