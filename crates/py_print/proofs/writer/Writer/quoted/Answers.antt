@@ -1,0 +1,10 @@
+use Rattle.std.proofs.Common.{◌≡◌, ◌++◌, ℕ, List, ap, ◌∙◌, rules}
+use Rattle.py_print.specs.Writing.{with_piece}
+use Rattle.py_print.proofs.writer.Writer.quoted.Goals as goal
+
+pub returns : goal.returns
+unfolding with_piece
+returns c =
+    let e : c.self.inside.points.items ≡ c.args.self.now = search rules in
+    c.in_ok-extend_from_slice.ensures.items ∙ ap (λ (z : List ℕ). z ++ c.as_slice.result.now) e
+    ∙ ap (λ (z : List ℕ). c.args.self.now ++ z) (c.as_slice.ensures ∙ c.in_ok-text.ensures)

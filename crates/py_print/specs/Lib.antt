@@ -1,0 +1,10 @@
+pub mod Pieces
+pub mod Expressions
+pub mod Lines
+pub mod Printed
+pub mod Spelled
+pub mod Writing
+pub mod Places
+pub mod Parts
+pub mod Forms
+pub mod Code
