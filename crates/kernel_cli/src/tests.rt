@@ -224,7 +224,24 @@ fn texts_are_accepted(rt: HostRuntime) -> Result<(), Fail> {
         ("def f(x):\\n  return x", RUN, Status::Refused, FORM),
         ("x = 1 - 1", RUN, Status::Refused, FORM),
         ("x = len", RUN, Status::Refused, FORM),
-        ("x = 1", SHOW, Status::Refused, SHAPE),
+        (
+            "x=1;y = (2)",
+            SHOW,
+            Status::Done,
+            "{\"cell\":\"a\",\"text\":\"x = 1\\ny = 2\\n\"}\n",
+        ),
+        (
+            "x = 1 .a",
+            SHOW,
+            Status::Done,
+            "{\"cell\":\"a\",\"text\":\"x = (1).a\\n\"}\n",
+        ),
+        (
+            "[y] = z",
+            SHOW,
+            Status::Done,
+            "{\"cell\":\"a\",\"text\":\"(y,) = z\\n\"}\n",
+        ),
     ] {
         let log = joined(
             alloc,

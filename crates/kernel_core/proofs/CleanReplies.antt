@@ -15,7 +15,7 @@ use Rattle.kernel_core.specs.declared.accepted.Accepted.{Accepted}
 use Rattle.kernel_core.specs.declared.accepted.Accepted.TheVariants.{Edit, Run}
 use Rattle.kernel_core.specs.declared.kernel.TheConstants.{STEPS_LIMIT}
 use Rattle.kernel_core.specs.declared.state.State.{State}
-use Rattle.kernel_core.specs.Answer.{Answer, allowance, answer_of, edit_answer, program_answer, run_answer, run_reply}
+use Rattle.kernel_core.specs.Answer.{Answer, allowance, answer_of, edit_answer, program_answer, run_answer, run_reply, show_reply, shown}
 use Rattle.kernel_core.specs.Clean.{HasNoStaleUse, KeepsClean, LeavesNoStale, events_of, events_of_program, events_of_text}
 use Rattle.kernel_core.specs.Kernel.{Held}
 use Rattle.kernel_core.specs.Program.{program_of}
@@ -86,7 +86,15 @@ run_answer_keeps k cell steps None e = tt
 run_answer_keeps k cell steps (Some text) e =
     allowed_keeps k (program_answer k cell steps (program_of text)) (program_keeps k cell text steps (program_of text) e refl) (nat_le steps STEPS_LIMIT)
 
+shown_keeps : (s : State) (cell : List ℕ) (read : Result Block Fault) → KeepsClean s (shown cell read)
+shown_keeps s cell (Ok b) = tt
+shown_keeps s cell (Err fault) = tt
+
+show_keeps : (s : State) (cell : List ℕ) (o : Option (List ℕ)) → KeepsClean s (show_reply cell o)
+show_keeps s cell None = tt
+show_keeps s cell (Some text) = shown_keeps s cell (cell_of text)
+
 pub answer_keeps_clean : (k : Held) (a : Ask) → KeepsClean (state_of k.log) (answer_of k a).reply
 answer_keeps_clean k (ask.Edit cell text) = edit_keeps k cell text (cell_of text)
 answer_keeps_clean k (ask.Run cell steps) = run_answer_keeps k cell (allowance k.steps steps) (map.get (state_of k.log).cells cell) refl
-answer_keeps_clean k (ask.Show cell) = tt
+answer_keeps_clean k (ask.Show cell) = show_keeps (state_of k.log) cell (map.get (state_of k.log).cells cell)

@@ -7,3 +7,5 @@ pub mod LiveUses
 pub mod CleanRuns
 pub mod CleanReplies
 pub mod Shown
+pub mod KeptPrograms
+pub mod ShowLaws

@@ -5,12 +5,12 @@ use Rattle.flow_wire.specs.declared.ask.Ask.{Ask}
 use Rattle.flow_wire.specs.declared.ask.Ask.TheVariants as ask
 use Rattle.flow_wire.specs.declared.reply.EndText.{EndText}
 use Rattle.flow_wire.specs.declared.reply.EndText.TheVariants as told
-use Rattle.flow_wire.specs.declared.reply.EventKind.TheVariants.{Shape}
 use Rattle.flow_wire.specs.declared.reply.Reply.{Reply}
-use Rattle.flow_wire.specs.declared.reply.Reply.TheVariants.{Edited, Ran, Event, NoCell, BadSteps, Form, Syntax}
+use Rattle.flow_wire.specs.declared.reply.Reply.TheVariants.{Edited, Ran, Shown, NoCell, BadSteps, Form, Syntax}
 use Rattle.py_accepted.specs.Accepted.{cell_of}
 use Rattle.py_ast.specs.Statement.{Block}
 use Rattle.py_block.specs.Parsed.{Fault}
+use Rattle.py_print.specs.Printed.{printed}
 use Rattle.plain_cells.specs.declared.machine.End.{End}
 use Rattle.plain_cells.specs.declared.machine.End.TheVariants as end
 use Rattle.plain_cells.specs.Run.{events_from, run_of}
@@ -61,10 +61,20 @@ run_answer k cell steps None = record { reply = NoCell; kernel = k }
 run_answer k cell steps (Some text) =
     if nat_le steps STEPS_LIMIT then program_answer k cell steps (program_of text) else record { reply = BadSteps; kernel = k }
 
+-- ---- show
+
+-- the cell as it is printed; an accepted text has no fault
+abbrev pub shown : List ℕ → Result Block Fault → Reply
+shown cell (Ok b) = Shown cell (printed b)
+shown cell (Err fault) = NoCell
+
+abbrev pub show_reply : List ℕ → Option (List ℕ) → Reply
+show_reply cell None = NoCell
+show_reply cell (Some text) = shown cell (cell_of text)
+
 -- ---- an ask
 
 abbrev pub answer_of : Held → Ask → Answer
 answer_of k (ask.Edit cell text) = edit_answer k cell text (cell_of text)
 answer_of k (ask.Run cell steps) = run_answer k cell (allowance k.steps steps) (map.get (state_of k.log).cells cell)
--- no cell is printed yet
-answer_of k (ask.Show cell) = record { reply = Event Shape; kernel = k }
+answer_of k (ask.Show cell) = record { reply = show_reply cell (map.get (state_of k.log).cells cell); kernel = k }

@@ -18,7 +18,7 @@ use crate::state::State;
 use containers::Sequence;
 use dependence_graph::Graph;
 use flow_base::{NoMemory, PyText, SyntaxKind};
-use flow_wire::{Ask, EndText, EventKind, Reply};
+use flow_wire::{Ask, EndText, Reply};
 use plain_cells::End;
 use py_accepted::accept;
 use py_ast::{Cell, Stmt};
@@ -50,9 +50,7 @@ pub fn answer(
     match a {
         Ask::Edit { cell, text } => edit(alloc, log, state, cell, text),
         Ask::Run { cell, steps: named } => run(alloc, steps, log, state, graph, cell, *named),
-        Ask::Show { .. } => Ok(Reply::Event {
-            kind: EventKind::Shape,
-        }),
+        Ask::Show { cell } => show(alloc, state, cell),
     }
 }
 
@@ -126,6 +124,26 @@ fn accept_edit(
     state.edit(alloc, cell, kept)?;
     log.push(accepted)?;
     Ok(reply)
+}
+
+// ---- show
+
+fn show(alloc: Global, state: &State, cell: &PyText) -> Result<Reply, NoMemory>
+    ensures { IfOk result (λ reply. reply ≡ spec.show_reply cell.now (map.get state.now.cells cell.now)) }
+{
+    match state.cells.get(cell) {
+        Some(kept) => show_kept(alloc, cell, kept),
+        None => Ok(Reply::NoCell),
+    }
+}
+
+fn show_kept(alloc: Global, cell: &PyText, kept: &Kept) -> Result<Reply, NoMemory>
+    ensures { IfOk result (λ reply. reply ≡ spec.shown cell.now (cell_of kept.now)) }
+{
+    Ok(Reply::Shown {
+        cell: cell.copy()?,
+        text: kept.print(alloc)?,
+    })
 }
 
 // ---- run

@@ -3,36 +3,41 @@ ghost use Rattle.std.specs.Prelude.{◌≡◌, IfOk, Ok, option_map};
 ghost use Rattle.std.specs.Option.{option_copied};
 ghost use Rattle.plain_cells.specs.Plain.{block_kept};
 ghost use Rattle.py_accepted.specs.Accepted.{cell_of};
-ghost use Rattle.py_ast.specs.Statement.{view_cell};
-ghost use Rattle.kernel_core.specs.Program.{program_in, program_of};
+ghost use Rattle.py_ast.specs.Statement.{Block, view_cell};
+ghost use Rattle.py_print.specs.Printed.{printed};
+ghost use Rattle.kernel_core.specs.Program.{program_of};
 
 use flow_base::{NoMemory, PyText};
 use plain_cells::is_plain;
 use py_ast::{Cell, Stmts};
+use py_print::print_cell;
+use std::alloc::Global;
 use std::marker::Model;
 
-/// What is kept for a cell: the text that was accepted, and the statements that it spells, where they are run. Contracts see the
-/// text, to which the statements are tied.
+/// What is kept for a cell: the text that was accepted, the cell that it spells, and whether that is plain. Contracts see the text, to
+/// which the others are tied.
 #[derive(Drop)]
 pub struct Kept {
     text: PyText,
-    program: Option<Stmts>,
+    cell: Cell,
+    plain: bool,
 }
 
 impl Model for Kept {
-    ghost use Rattle.std.specs.Prelude.{◌≡◌, ℕ, List, option_map};
+    ghost use Rattle.std.specs.Prelude.{◌≡◌, ℕ, List, Ok};
     ghost use Rattle.std.specs.Coded.{coded_list, coded_ℕ};
 
     ghost Value = { List ℕ };
 
     ghost coded = { coded_list coded_ℕ };
 
-    ghost use Rattle.plain_cells.specs.Plain.{block_kept};
-    ghost use Rattle.kernel_core.specs.Program.{program_of};
+    ghost use Rattle.plain_cells.specs.Plain.{is_plain};
+    ghost use Rattle.py_accepted.specs.Accepted.{cell_of};
+    ghost use Rattle.py_ast.specs.Statement.{view_cell};
 
     ghost view = { λ k. k.text };
 
-    ghost invariant = { λ k. option_map block_kept k.program ≡ program_of k.text };
+    ghost invariant = { λ k. (cell_of k.text ≡ Ok (view_cell k.cell)) × (k.plain ≡ is_plain (view_cell k.cell)) };
 }
 
 impl Kept {
@@ -41,8 +46,8 @@ impl Kept {
         requires { cell_of text ≡ Ok (view_cell cell) }
         ensures { result ≡ text }
     {
-        let program = program_in(cell);
-        Kept { text, program }
+        let plain = is_plain(cell.statements.as_slice());
+        Kept { text, cell, plain }
     }
 
     /// The text.
@@ -56,36 +61,30 @@ impl Kept {
     pub fn program(&self) -> Option<&Stmts>
         ensures { option_map block_kept (option_copied result) ≡ program_of self.now }
     {
-        self.program.as_ref()
+        if self.plain {
+            Some(&self.cell.statements)
+        } else {
+            None
+        }
     }
 
-    /// The same text and statements, in the same memory.
+    /// The printed text of the cell.
+    pub fn print(&self, alloc: Global) -> Result<PyText, NoMemory>
+        ensures { IfOk result (λ shown. (b : Block) × (cell_of self.now ≡ Ok b) × (shown ≡ printed b)) }
+    {
+        print_cell(alloc, &self.cell)
+    }
+
+    /// The same text and cell, in the same memory.
     pub fn copy(&self) -> Result<Kept, NoMemory>
         ensures { IfOk result (λ kept. kept ≡ self.now) }
     {
         let text = self.text.copy()?;
-        let program = copy_program(&self.program)?;
-        Ok(Kept { text, program })
-    }
-}
-
-// The statements of a plain cell; those of another one go.
-fn program_in(cell: Cell) -> Option<Stmts>
-    ensures { option_map block_kept result ≡ program_in (Ok (view_cell cell)) }
-{
-    if is_plain(cell.statements.as_slice()) {
-        Some(cell.statements)
-    } else {
-        drop(cell);
-        None
-    }
-}
-
-fn copy_program(program: &Option<Stmts>) -> Result<Option<Stmts>, NoMemory>
-    ensures { IfOk result (λ copied. copied ≡ program.now) }
-{
-    match program {
-        Some(statements) => Ok(Some(statements.copy()?)),
-        None => Ok(None),
+        let statements = self.cell.statements.copy()?;
+        Ok(Kept {
+            text,
+            cell: Cell { statements },
+            plain: self.plain,
+        })
     }
 }

@@ -14,4 +14,4 @@ mod tests;
 
 pub use accepted::Accepted;
 pub use kernel::{Kernel, STEPS_LIMIT};
-pub use law::{answer_law, clean_law, clean_reply_law, clean_run_law, stale_run_law};
+pub use law::{answer_law, clean_law, clean_reply_law, clean_run_law, show_law, stale_run_law};

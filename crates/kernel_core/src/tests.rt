@@ -1,5 +1,7 @@
 // Asks and their replies, as a session shows them.
-use crate::{Kernel, answer_law, clean_law, clean_reply_law, clean_run_law, stale_run_law};
+use crate::{
+    Kernel, answer_law, clean_law, clean_reply_law, clean_run_law, show_law, stale_run_law,
+};
 use flow_base::{NoMemory, PyText};
 use flow_wire::{Ask, MarkText, Reply, write_reply};
 use std::alloc::Global;
@@ -142,18 +144,30 @@ fn answers_asks(rt: HostRuntime) -> Result<(), Fail> {
         let a = ask(alloc, cell, text, steps)?;
         assert!(rt; answers(alloc, &mut kernel, &a, want)?);
     }
-    let show = Ask::Show {
-        cell: PyText::from_str(alloc, "d")?,
-    };
-    assert!(rt;
-        answers(
-            alloc,
-            &mut kernel,
-            &show,
-            r#"{"kind":"shape","refused":"event"}"#
-        )?
-    );
     assert!(rt; !kernel.failed());
+    Ok(())
+}
+
+fn shows(alloc: Global, kernel: &mut Kernel, cell: &str, want: &str) -> Result<bool, NoMemory> {
+    let show = Ask::Show {
+        cell: PyText::from_str(alloc, cell)?,
+    };
+    answers(alloc, kernel, &show, want)
+}
+
+// A cell is shown as it is printed, whether it is run or not; what is shown is accepted, and shown as it stands.
+#[test]
+fn shows_cells(rt: HostRuntime) -> Result<(), Fail> {
+    let alloc = rt.alloc();
+    show_law();
+    let mut kernel = Kernel::new(alloc, 1_000_000)?;
+    assert!(rt; shows(alloc, &mut kernel, "a", r#"{"refused":"no cell"}"#)?);
+    let want = r#"{"cell":"a","text":"if x:\n    y = (1,)\n"}"#;
+    for text in ["if x : y = 1,", "if x:\n    y = (1,)\n"] {
+        let a = ask(alloc, "a", Some(text), None)?;
+        assert!(rt; answers(alloc, &mut kernel, &a, r#"{"cell":"a","edited":true}"#)?);
+        assert!(rt; shows(alloc, &mut kernel, "a", want)?);
+    }
     Ok(())
 }
 
