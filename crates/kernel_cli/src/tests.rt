@@ -420,6 +420,29 @@ fn lines_have_a_limit(rt: HostRuntime) -> Result<(), Fail> {
     Ok(())
 }
 
+// A line of so many bytes that edits a cell, whose text is a comment.
+fn comment_line(alloc: Global, len: usize) -> Result<Vec<u8>, NoMemory> {
+    let mut line = joined(alloc, &["{\"event\":\"edit\",\"cell\":\"a\",\"text\":\"#"])?;
+    line.resize(len.saturating_sub(3), b'c')?;
+    line.extend_from_slice(b"\"}\n")?;
+    Ok(line)
+}
+
+// The longest text of a cell is accepted.
+#[test]
+fn texts_have_the_limit_of_lines(rt: HostRuntime) -> Result<(), Fail> {
+    let alloc = rt.alloc();
+    for (len, status, reply) in [
+        (LINE_LIMIT, Status::Done, EDITED),
+        (LINE_LIMIT + 1, Status::Refused, LONG),
+    ] {
+        let mut log = comment_line(alloc, len + 1)?;
+        log.extend_from_slice(EDIT.as_bytes())?;
+        answers(&rt, &log, (0, 0), status, &[reply, EDITED])?;
+    }
+    Ok(())
+}
+
 #[test]
 fn words_without_a_shape_are_usage(rt: HostRuntime) -> Result<(), Fail> {
     let alloc = rt.alloc();
