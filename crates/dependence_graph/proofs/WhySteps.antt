@@ -10,7 +10,7 @@ use Rattle.flow_base.specs.declared.numbers.RunNo.{RunNo}
 use Rattle.trace_events.specs.declared.version.Version.{Version}
 use Rattle.trace_events.specs.History.{History, made_upto, run_of, wrote}
 use Rattle.trace_events.specs.Decided.{ancestors_of, count_of_writes, is_stale, near_of, runs_after}
-use Rattle.trace_events.specs.Staleness.{Ancestor, Near, Stale}
+use Rattle.trace_events.specs.Staleness.{Ancestor, Stale}
 use Rattle.trace_events.specs.Staleness as stale
 use Rattle.trace_events.specs.Why.{Reason, first_overwrite, least, least_overwritten, least_stale_near, or_carried, reason_of_dep, reason_with, reason_within, why_of}
 use Rattle.trace_events.proofs.Ancestors.{IsAscending, run_of-near}

@@ -1,11 +1,10 @@
 -- The tests of keys and locations hold exactly where the two are the same.
 use Rattle.std.proofs.Common.{◌≡◌, ◌&&◌, ◌==◌, ℕ, Bool, true, false, ℤ, List, [], ◌∷◌, map, refl, sym, ap, subst, ◌∙◌, eqb-true, eq-eqb}
-use Rattle.std.specs.Ordering.{int_eq}
 use Rattle.std.specs.Str.{bytes_eq}
 use Rattle.std.proofs.lemmas.Bool.{false≢true, true≢false, and_parts, and_from}
 use Rattle.std.proofs.lemmas.Bool.Decides.{Decides-int_eq}
 use Rattle.std.proofs.lemmas.Slice.Eq.{bytes_eq-Decides}
-use Rattle.flow_base.specs.declared.key.Key.{Key, fold-Key, out-Key, roll-Key}
+use Rattle.flow_base.specs.declared.key.Key.{Key, out-Key, roll-Key}
 use Rattle.flow_base.specs.declared.key.Key.TheFolds.{fold-roll-Key, ind-Key, map-Key}
 use Rattle.flow_base.specs.declared.key.Key.TheViews.{out-roll-Key, roll-out-Key}
 use Rattle.flow_base.specs.declared.key.Key.TheOpen as key

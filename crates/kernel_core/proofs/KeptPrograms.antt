@@ -1,6 +1,6 @@
 -- What a cell that is kept runs, and how it is shown.
 use Rattle.std.proofs.Common.{◌≡◌, ℕ, Bool, cond, List, ap, sym, ◌∙◌}
-use Rattle.std.specs.Prelude.{Option, Some, None, Result, Ok, Err}
+use Rattle.std.specs.Prelude.{Some, None, Ok}
 use Rattle.py_accepted.specs.Accepted.{cell_of}
 use Rattle.py_ast.specs.Statement.{Block}
 use Rattle.plain_cells.specs.Plain.{is_plain}

@@ -1,11 +1,10 @@
 -- Lists of live names, of stale versions, and the least of them.
 use Rattle.std.proofs.Common.{◌≡◌, ◌∙◌, ℕ, List, [], ◌∷◌, ◌++◌, length, filter, take, drop, Bool, true, false, not, cond, ◌||◌, Option, Some, None, ap, sym, refl}
 use Rattle.std.specs.Prelude.{option_map, is_some}
-use Rattle.std.specs.List.{cons_option, filter_map}
+use Rattle.std.specs.List.{cons_option}
 use Rattle.std.specs.Ordering.{nat_cmp, eq_by_cmp}
 use Rattle.std.specs.Cmp.{eq_by_cmp_equiv}
 use Rattle.std.specs.Cmp.Lexicographic.{slice_cmp, nat_list_cmp_total}
-use Rattle.std.specs.Str.{bytes_eq}
 use Rattle.std.specs.FinMap.{FinMap, get, insert, empty as empty_map, get-insert, get-empty}
 use Rattle.std.proofs.lemmas.List.{map-append}
 use Rattle.std.proofs.lemmas.Map.Text.{is_eq-slice_cmp}
@@ -15,9 +14,9 @@ use Rattle.trace_events.specs.declared.version.Version.{Version}
 use Rattle.trace_events.specs.Decided.{is_stale}
 use Rattle.trace_events.specs.History.{History}
 use Rattle.trace_events.specs.Why.{least, lesser}
-use Rattle.py_ast.specs.Statement.{Block, empty, then as before, view_stmt}
+use Rattle.py_ast.specs.Statement.{Block, empty, then as before, view_stmt, view_block}
 use Rattle.py_ast.specs.declared.stmt.Stmt.{Stmt}
-use Rattle.plain_cells.specs.Plain.{assigned, block_kept, name_bound, names_read}
+use Rattle.plain_cells.specs.Plain.{assigned, name_bound, names_read}
 use Rattle.plain_cells.specs.Run.{global}
 use Rattle.kernel_core.specs.Lineage.{is_in, live_from, live_names, version_now, with_bound, with_path}
 use Rattle.kernel_core.specs.Naming.{binds}
@@ -72,10 +71,10 @@ has_name-insert bound name x other =
 -- one statement more, where the second test is for what is bound after it
 pub live_step : (p q : List ℕ → Bool) (s : Stmt) (statements : List Stmt)
     → ((x : List ℕ) → q x ≡ or_bound (name_bound (assigned (view_stmt s))) p x)
-    → live_by p (block_kept (s ∷ statements)) ≡ live_in p (names_read (assigned (view_stmt s))) ++ live_by q (block_kept statements)
+    → live_by p (view_block (s ∷ statements)) ≡ live_in p (names_read (assigned (view_stmt s))) ++ live_by q (view_block statements)
 live_step p q s statements same =
     ap (λ more. live_in p (names_read (assigned (view_stmt s))) ++ more)
-    (live_by_alike (block_kept statements) (or_bound (name_bound (assigned (view_stmt s))) p) q (λ x. sym (same x)))
+    (live_by_alike (view_block statements) (or_bound (name_bound (assigned (view_stmt s))) p) q (λ x. sym (same x)))
 
 pub live_at_start : (X : Type 0) (b : Block) → live_by (has_name (empty_map {X = X} {R = slice_cmp nat_cmp})) b ≡ live_names b
 live_at_start X b =

@@ -1,6 +1,6 @@
 -- What a cell uses before it writes it is one of its live names.
 use Rattle.std.proofs.Common.{◌≡◌, ℕ, zero, suc, Bool, true, false, not, cond, List, [], ◌∷◌, ◌++◌, refl, sym, subst, ap, ◌∙◌, ⊎_elim}
-use Rattle.std.specs.Prelude.{ℤ, ◌+ℤ◌, pos, Option, Some, None, Result, Ok, Err, is_some}
+use Rattle.std.specs.Prelude.{ℤ, ◌+ℤ◌, Option, Some, None, Result, Ok, Err, is_some}
 use Rattle.std.specs.List.{AllByRecursion, fold}
 use Rattle.std.proofs.lemmas.Bool.{false≢true, true≢false, or_cases}
 use Rattle.std.proofs.lemmas.List.Sums.{fold-append}
@@ -20,7 +20,7 @@ use Rattle.trace_events.specs.declared.summary.Write.{Write as Written}
 use Rattle.trace_events.specs.Trace.{IsStartUse, Reading, all_uses, last_write, seen_after, seen_from, start, start_read, step, summary_of}
 use Rattle.trace_events.proofs.Reading.{each-append}
 use Rattle.trace_events.proofs.Writes.{last_write_push}
-use Rattle.py_ast.specs.Statement.{Statement, Block, empty, then as before}
+use Rattle.py_ast.specs.Statement.{Block, empty, then as before}
 use Rattle.py_ast.specs.Tree as tree
 use Rattle.py_ast.specs.Tree.{Tree}
 use Rattle.py_ast.specs.declared.expr.BinaryOp.TheVariants.{Add}

@@ -1,10 +1,10 @@
 -- What is shown is accepted again, by the laws of what is accepted and of what is printed.
 use Rattle.std.proofs.Common.{◌≡◌, ◌↔◌, ℕ, List, [], subst}
-use Rattle.std.specs.Prelude.{Result, Ok}
+use Rattle.std.specs.Prelude.{Ok}
 use Rattle.py_accepted.specs.Accepted.{cell_of}
 use Rattle.py_ast.specs.Statement.{Block}
 use Rattle.py_block.specs.Cell.{IsParsed, SpellsText}
-use Rattle.py_block.specs.Parsed.{Fault, parsed}
+use Rattle.py_block.specs.Parsed.{parsed}
 use Rattle.py_numbered.specs.Numbered.{numbered}
 use Rattle.py_print.specs.Printed.{printed}
 use Rattle.py_print.specs.Spelled.{HasOwnNames}

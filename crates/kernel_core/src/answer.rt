@@ -2,9 +2,8 @@
 ghost use Rattle.std.specs.Prelude.{◌≡◌, ℕ, ◌∷◌, [], ◌++◌, IfOk, OnOk, OnErr, Some, Ok};
 ghost use Rattle.std.specs.FinMap as map;
 ghost use Rattle.dependence_graph.specs.Marks.{IsExact};
-ghost use Rattle.plain_cells.specs.Plain.{block_kept};
 ghost use Rattle.py_accepted.specs.Accepted.{cell_of};
-ghost use Rattle.py_ast.specs.Statement.{view_cell};
+ghost use Rattle.py_ast.specs.Statement.{view_cell, view_block};
 ghost use Rattle.kernel_core.specs.Program.{program_of};
 ghost use Rattle.kernel_core.specs.State.{ran_program, state_of};
 ghost use Rattle.kernel_core.specs.Kernel.{running};
@@ -223,9 +222,9 @@ fn accept_run(
 ) -> Result<Reply, NoMemory>
     requires same { state.old ≡ state_of log.old }
     requires kept { map.get state.old.cells cell.now ≡ Some text.now }
-    requires program { program_of text.now ≡ Some (block_kept statements.now) }
+    requires program { program_of text.now ≡ Some (view_block statements.now) }
     requires exact { IsExact state.old.versions graph.old.stale }
-    ensures reply { IfOk result (λ reply. reply ≡ spec.run_reply state.old cell.now steps (block_kept statements.now)) }
+    ensures reply { IfOk result (λ reply. reply ≡ spec.run_reply state.old cell.now steps (view_block statements.now)) }
     ensures ok { OnOk result (log.new ≡ log.old ++ (Accepted.Run cell.now steps) ∷ []) }
     ensures state { OnOk result (state.new ≡ state_of log.new) }
     ensures exact { OnOk result (IsExact state.new.versions graph.new.stale) }
@@ -251,8 +250,8 @@ fn run_cell(
     statements: &[Stmt],
 ) -> Result<Reply, NoMemory>
     requires { IsExact state.old.versions graph.old.stale }
-    ensures reply { IfOk result (λ reply. reply ≡ spec.run_reply state.old cell.now steps (block_kept statements.now)) }
-    ensures state { OnOk result (state.new ≡ ran_program state.old cell.now steps text.now (Some (block_kept statements.now))) }
+    ensures reply { IfOk result (λ reply. reply ≡ spec.run_reply state.old cell.now steps (view_block statements.now)) }
+    ensures state { OnOk result (state.new ≡ ran_program state.old cell.now steps text.now (Some (view_block statements.now))) }
     ensures exact { OnOk result (IsExact state.new.versions graph.new.stale) }
 {
     let mark = mark(alloc, &state.names, &state.versions, graph, statements)?;

@@ -1,9 +1,8 @@
 // What is kept for a cell.
 ghost use Rattle.std.specs.Prelude.{◌≡◌, IfOk, Ok, option_map};
 ghost use Rattle.std.specs.Option.{option_copied};
-ghost use Rattle.plain_cells.specs.Plain.{block_kept};
 ghost use Rattle.py_accepted.specs.Accepted.{cell_of};
-ghost use Rattle.py_ast.specs.Statement.{Block, view_cell};
+ghost use Rattle.py_ast.specs.Statement.{Block, view_cell, view_block};
 ghost use Rattle.py_print.specs.Printed.{printed};
 ghost use Rattle.kernel_core.specs.Program.{program_of};
 
@@ -59,7 +58,7 @@ impl Kept {
 
     /// The statements that are run, and `None` where the cell is not plain. Takes no memory.
     pub fn program(&self) -> Option<&Stmts>
-        ensures { option_map block_kept (option_copied result) ≡ program_of self.now }
+        ensures { option_map view_block (option_copied result) ≡ program_of self.now }
     {
         if self.plain {
             Some(&self.cell.statements)

@@ -6,18 +6,18 @@ ghost use Rattle.dependence_graph.specs.Marks.{IsExact};
 ghost use Rattle.kernel_core.specs.Lineage as spec;
 ghost use Rattle.kernel_core.specs.Marking as pass;
 ghost use Rattle.kernel_core.specs.Naming.{binds};
-ghost use Rattle.plain_cells.specs.Plain.{assigned, block_kept, name_bound, names_read};
+ghost use Rattle.plain_cells.specs.Plain.{assigned, name_bound, names_read};
 ghost use Rattle.plain_cells.specs.Run as meaning;
-ghost use Rattle.py_ast.specs.Statement.{view_stmt};
+ghost use Rattle.py_ast.specs.Statement.{view_stmt, view_block};
 ghost use Rattle.trace_events.specs.Decided.{is_stale};
 ghost use Rattle.trace_events.specs.Order.{text_of, version_cmp};
 ghost use Rattle.trace_events.specs.Why.{least, lesser, why_of};
 
 use containers::Table;
 use dependence_graph::Graph;
-use flow_base::{Loc, Names, NoMemory, ObjRef, PyText, ReadHow, RunNo, Shared, Sym};
+use flow_base::{Loc, Names, NoMemory, PyText, ReadHow, RunNo, Shared, Sym};
 use flow_wire::{MarkText, TextList};
-use plain_cells::{bound_name, used_names};
+use plain_cells::{bound_name, global, used_names};
 use py_ast::Stmt;
 use std::alloc::Global;
 use std::cmp::Ordering;
@@ -33,7 +33,7 @@ pub fn mark(
     statements: &[Stmt],
 ) -> Result<MarkText, NoMemory>
     requires { IsExact versions.now graph.now.stale }
-    ensures { IfOk result (λ mark. mark ≡ spec.mark_of names.now versions.now (block_kept statements.now)) }
+    ensures { IfOk result (λ mark. mark ≡ spec.mark_of names.now versions.now (view_block statements.now)) }
 {
     let live = live_names(alloc, statements)?;
     let stale = stale_versions(alloc, names, versions, graph, live.as_slice())?;
@@ -70,7 +70,7 @@ pub fn stale_paths(
 
 // The names that some statement uses and no earlier statement binds.
 fn live_names(alloc: Global, statements: &[Stmt]) -> Result<Vec<PyText>, NoMemory>
-    ensures { IfOk result (λ live. live.items ≡ spec.live_names (block_kept statements.now)) }
+    ensures { IfOk result (λ live. live.items ≡ spec.live_names (view_block statements.now)) }
 {
     let mut live = Vec::new(alloc);
     let mut bound = Table::new(alloc);
@@ -122,13 +122,6 @@ fn add_unbound(bound: &Table<()>, name: &PyText, live: &mut Vec<PyText>) -> Resu
 }
 
 // ---- stale versions
-
-// A name is a location of the global frame, which is object 0.
-fn global(s: Sym) -> Loc
-    ensures { result ≡ meaning.global s }
-{
-    Loc::Name(ObjRef(0), s)
-}
 
 // The stale ones among the versions that the names have.
 fn stale_versions(

@@ -1,7 +1,7 @@
 // What a session has come to.
 ghost use Rattle.std.specs.Prelude.{◌≡◌, [], ◌∷◌, ◌++◌, IfOk, OnOk};
-ghost use Rattle.plain_cells.specs.Plain.{assigned, block_kept, name_bound, names_in, names_read};
-ghost use Rattle.py_ast.specs.Statement.{view_stmt};
+ghost use Rattle.plain_cells.specs.Plain.{assigned, name_bound, names_in, names_read};
+ghost use Rattle.py_ast.specs.Statement.{view_stmt, view_block};
 ghost use Rattle.kernel_core.specs.Naming.{one_name};
 ghost use Rattle.kernel_core.specs.Program.{names_of, program_of};
 ghost use Rattle.kernel_core.specs.State.{with_names};
@@ -78,11 +78,11 @@ impl State {
         steps: u32,
     ) -> Result<Computed, NoMemory>
         ensures values { OnOk result (self.new ≡ record self.old {
-          values = (run_of self.old.names self.old.values steps (block_kept statements.now)).1.values;
+          values = (run_of self.old.names self.old.values steps (view_block statements.now)).1.values;
         }) }
-        ensures end { IfOk result (λ computed. computed.end ≡ (run_of self.old.names self.old.values steps (block_kept statements.now)).0) }
+        ensures end { IfOk result (λ computed. computed.end ≡ (run_of self.old.names self.old.values steps (view_block statements.now)).0) }
         ensures summary { IfOk result (λ computed.
-            computed.summary ≡ summary_of (events_from self.old.names self.old.values steps (block_kept statements.now))) }
+            computed.summary ≡ summary_of (events_from self.old.names self.old.values steps (view_block statements.now))) }
     {
         let before = mem::replace(&mut self.values, Values::new(alloc));
         let Finished { end, machine } = run(alloc, &self.names, before, steps, statements)?;
@@ -129,7 +129,7 @@ fn intern_program(alloc: Global, names: &mut Names, kept: &Kept) -> Result<(), N
 }
 
 fn intern_block(alloc: Global, names: &mut Names, statements: &[Stmt]) -> Result<(), NoMemory>
-    ensures { OnOk result (names.new ≡ with_names names.old (names_in (block_kept statements.now))) }
+    ensures { OnOk result (names.new ≡ with_names names.old (names_in (view_block statements.now))) }
 {
     for s in statements {
         intern_bound(names, s)?;

@@ -1,10 +1,9 @@
 -- Plain cells: those all of whose statements are `NAME = E`, where E is built of numbers, of names that are not built in, and of `+`.
-use Rattle.std.specs.Prelude.{ℕ, List, [], ◌∷◌, ◌++◌, Bool, true, false, not, ◌&&◌, Option, Some, None, option_map, map}
-use Rattle.py_ast.specs.Statement.{Statement, assign, Block, empty, then as before, block_of, view_stmt}
+use Rattle.std.specs.Prelude.{ℕ, List, [], ◌∷◌, ◌++◌, Bool, true, false, not, ◌&&◌, Option, Some, None, option_map}
+use Rattle.py_ast.specs.Statement.{Statement, assign, Block, empty, then as before}
 use Rattle.py_ast.specs.Tree as tree
 use Rattle.py_ast.specs.Tree.{Tree, Trees, none, more}
 use Rattle.py_ast.specs.declared.expr.BinaryOp.TheVariants.{Add}
-use Rattle.py_ast.specs.declared.stmt.Stmt.{Stmt}
 use Rattle.plain_cells.specs.BuiltIns.{is_built_in}
 
 -- built of numbers, of names that are not built in, and of `+`
@@ -38,12 +37,6 @@ assigns_sum (Some p) = is_sum p.1
 abbrev pub is_plain : Block → Bool
 is_plain empty = true
 is_plain (before s b) = assigns_sum (assigned s) && is_plain b
-
--- ---- statements as they are kept
-
--- the block of statements as they are kept
-abbrev pub block_kept : List Stmt → Block
-block_kept statements = block_of (map view_stmt statements)
 
 -- ---- names
 

@@ -1,9 +1,8 @@
 // What a run of a plain cell does. Each function here gives what its definition gives and leaves the machine as it does, unless memory is
 // wanting.
 ghost use Rattle.std.specs.Prelude.{◌≡◌, ◌+ℤ◌, Some, Ok, IfOk, OnOk};
-ghost use Rattle.py_ast.specs.Statement.{view_stmt};
+ghost use Rattle.py_ast.specs.Statement.{view_stmt, view_block};
 ghost use Rattle.py_ast.specs.View.{view};
-ghost use Rattle.plain_cells.specs.Plain.{block_kept};
 ghost use Rattle.plain_cells.specs.Run as spec;
 ghost use Rattle.plain_cells.specs.Run.{Outcome, Runs, closed};
 
@@ -25,7 +24,7 @@ pub fn run(
     steps: u32,
     statements: &[Stmt],
 ) -> Result<Finished, NoMemory>
-    ensures { IfOk result (λ ran. (ran.end, ran.machine) ≡ spec.run_of names.now values steps (block_kept statements.now)) }
+    ensures { IfOk result (λ ran. (ran.end, ran.machine) ≡ spec.run_of names.now values steps (view_block statements.now)) }
 {
     let mut machine = Machine {
         left: steps,
@@ -64,8 +63,8 @@ fn log(m: &mut Machine, event: Event) -> Result<(), NoMemory>
     m.events.push(event)
 }
 
-// A name is a location of the global frame, which is object 0.
-fn global(s: Sym) -> Loc
+/// The location of a name of the global frame, which is object 0.
+pub fn global(s: Sym) -> Loc
     ensures { result ≡ spec.global s }
 {
     Loc::Name(ObjRef(0), s)
@@ -186,7 +185,7 @@ fn exec(m: &mut Machine, names: &Names, s: &Stmt) -> Result<(), Stop>
 }
 
 fn exec_all(m: &mut Machine, names: &Names, statements: &[Stmt]) -> Result<(), Stop>
-    ensures { Runs (spec.exec_all names.now (block_kept statements.now) m.old) result m.new }
+    ensures { Runs (spec.exec_all names.now (view_block statements.now) m.old) result m.new }
 {
     for s in statements {
         exec(m, names, s)?;

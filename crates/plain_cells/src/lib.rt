@@ -7,7 +7,7 @@ mod evaluate;
 mod machine;
 mod plain;
 
-pub use evaluate::run;
+pub use evaluate::{global, run};
 pub use machine::{End, Finished, Machine};
 pub use plain::{bound_name, is_plain, used_names};
 

@@ -2,7 +2,7 @@
 ghost use Rattle.std.specs.Prelude.{◌≡◌, ◌++◌, IfOk, OnOk};
 ghost use Rattle.std.specs.Option.{option_copied};
 ghost use Rattle.py_ast.specs.View.{view, views};
-ghost use Rattle.py_ast.specs.Statement.{view_stmt};
+ghost use Rattle.py_ast.specs.Statement.{view_stmt, view_block};
 ghost use Rattle.plain_cells.specs.Plain as spec;
 
 use crate::built_ins::is_built_in;
@@ -12,7 +12,7 @@ use std::alloc::Global;
 
 /// Whether the statements are those of a plain cell. Takes no memory.
 pub fn is_plain(statements: &[Stmt]) -> bool
-    ensures { result ≡ spec.is_plain (spec.block_kept statements.now) }
+    ensures { result ≡ spec.is_plain (view_block statements.now) }
 {
     for s in statements {
         if !assigns_sum(s) {

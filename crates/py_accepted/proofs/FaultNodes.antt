@@ -3,7 +3,7 @@ use Rattle.std.proofs.Common.{◌≡◌, ◌+◌, ◌≤◌, ℕ, zero, suc, Boo
 use Rattle.std.proofs.Math.Nat.{le-min, min-le_left}
 use Rattle.std.specs.List.{flat_map, AllByRecursion as Each}
 use Rattle.py_ast.specs.Nodes as n
-use Rattle.py_ast.specs.Nodes.{IsNumbered, Node, Part, a_handler, a_stmt, an_expr, below, below_handler, below_step, below_stmt, count_from, from_parts, nodes, nodes_of_all, nodes_of_block, nodes_of_branch, nodes_of_cell, nodes_of_handler, nodes_of_maybe, nodes_of_stmt, number_of, stmt_number_in}
+use Rattle.py_ast.specs.Nodes.{IsNumbered, Node, Part, below, below_handler, below_step, below_stmt, count_from, from_parts, nodes, nodes_of_all, nodes_of_block, nodes_of_branch, nodes_of_cell, nodes_of_handler, nodes_of_maybe, nodes_of_stmt, number_of, stmt_number_in}
 use Rattle.py_ast.specs.declared.expr.Expr.{Expr, out-Expr, roll-Expr}
 use Rattle.py_ast.specs.declared.expr.Expr.TheOpen as e
 use Rattle.py_ast.specs.declared.expr.Expr.TheOpen.{Expr-F}

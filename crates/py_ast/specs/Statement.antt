@@ -97,5 +97,9 @@ view_handler_step h = (option_map view h.class, h.name, block_of h.body)
 abbrev pub view_stmt : Stmt → Statement
 view_stmt = fold-Stmt Statement BranchParts HandlerParts view_stmt_step view_branch_step view_handler_step
 
+-- the block that statements stand for
+abbrev pub view_block : List Stmt → Block
+view_block xs = block_of (map view_stmt xs)
+
 abbrev pub view_cell : Cell → Block
-view_cell c = block_of (map view_stmt c.statements)
+view_cell c = view_block c.statements

@@ -1,5 +1,5 @@
 -- Logical lines put into blocks: what is answered is the block that they stand as, or the line at which they begin none.
-use Rattle.std.proofs.Common.{◌≡◌, ℕ, Bool, true, false, List, [], ◌∷◌, ◌++◌, map, Option, Some, None, Result, Ok, Err, refl, sym, ap, ◌∙◌, subst, append_assoc}
+use Rattle.std.proofs.Common.{◌≡◌, ℕ, false, List, [], ◌∷◌, ◌++◌, map, Option, Some, None, Result, Ok, Err, refl, sym, ap, ◌∙◌, subst, append_assoc}
 use Rattle.std.proofs.lemmas.List.{append-nil}
 use Rattle.flow_base.specs.declared.kinds.SyntaxKind.TheVariants.{Syntax}
 use Rattle.py_ast.specs.Statement.{Block}
@@ -7,7 +7,7 @@ use Rattle.py_ast.specs.Lawful.{top}
 use Rattle.py_lexer.specs.declared.token.Token.{Token}
 use Rattle.py_layout.specs.declared.line.LogicalLine.{LogicalLine}
 use Rattle.py_grammar.specs.Line.{Line}
-use Rattle.py_grammar.specs.Blocks.{Placed, Stands, Begins}
+use Rattle.py_grammar.specs.Blocks.{Placed, Stands}
 use Rattle.py_grammar.specs.Reading.{◌>>=◌, on}
 use Rattle.py_grammar.proofs.Lines.{one_line}
 use Rattle.py_grammar.proofs.Steps.{some_is, bind_ok, bind_bind, bind_same}

@@ -1,5 +1,5 @@
 -- What is answered to a text is what the text is, and nothing else is.
-use Rattle.std.proofs.Common.{◌≡◌, ℕ, Bool, true, false, List, [], ◌∷◌, map, Option, Some, None, Result, Ok, Err, refl, sym, ap, ◌∙◌, subst}
+use Rattle.std.proofs.Common.{◌≡◌, ℕ, false, List, [], ◌∷◌, map, Option, Some, None, Result, Ok, Err, refl, sym, ap, ◌∙◌, subst}
 use Rattle.flow_base.specs.declared.kinds.SyntaxKind.{SyntaxKind}
 use Rattle.flow_base.specs.declared.kinds.SyntaxKind.TheVariants.{Lex, Layout, Unsupported, Limit, Syntax, Scope}
 use Rattle.py_ast.specs.Statement.{Block}
@@ -16,7 +16,7 @@ use Rattle.py_signs.specs.Limits.{has_unsupported}
 use Rattle.py_block.specs.Machine.{start}
 use Rattle.py_block.specs.Lexing.{lexed, laid}
 use Rattle.py_block.specs.Parsed.{Told, Fault, told, tokens_of, is_unsupported, is_over, first_number, blocks, of_lines, of_laid, of_tokens, parsed, with_line_ends}
-use Rattle.py_block.specs.Cell.{Cut, IsUnsupported, IsOver, HoldsOfNone, IsFirst, IsPlainCut, SpellsText, IsFault, IsParsed}
+use Rattle.py_block.specs.Cell.{Cut, IsUnsupported, IsOver, HoldsOfNone, IsPlainCut, SpellsText, IsFault, IsParsed}
 use Rattle.py_block.proofs.LexingLaws.{IsLexed, lexed_is, IsLaid, laid_is}
 use Rattle.py_block.proofs.FormLaws.{unsupported_is, no_unsupported, over_told, told_over, Tests, HoldsOfAll, first_is, none_is, is_first, is_none}
 use Rattle.py_block.proofs.BlockLaws.{IsAnswer, blocks_are, misplaced_told, stands_told}

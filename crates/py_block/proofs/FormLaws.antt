@@ -1,11 +1,10 @@
 -- What is told of one logical line, and the first line that a test passes.
-use Rattle.std.proofs.Common.{◌≡◌, ℕ, zero, suc, ◌+◌, ◌≤◌, ◌<◌, Bool, true, false, ◌||◌, nat_lt, if◌then◌else◌, List, [], ◌∷◌, map, Option, Some, None, Result, Ok, Err, refl, sym, ap, ◌∙◌, subst, arith, ◌⊎◌, inl, inr}
+use Rattle.std.proofs.Common.{◌≡◌, ℕ, ◌+◌, ◌≤◌, ◌<◌, Bool, true, false, ◌||◌, nat_lt, if◌then◌else◌, List, [], ◌∷◌, map, Option, Some, None, refl, sym, ap, ◌∙◌, subst, arith, ◌⊎◌, inl, inr}
 use Rattle.std.proofs.lemmas.Bool.{cases_Bool, ltb-true, ltb-false}
-use Rattle.py_ast.specs.Statement.{Statement}
 use Rattle.py_lexer.specs.declared.token.Token.{Token}
 use Rattle.py_layout.specs.declared.line.LogicalLine.{LogicalLine}
 use Rattle.py_grammar.specs.Line as l
-use Rattle.py_grammar.specs.Line.{Header, Line, SpellsLine, line_depth}
+use Rattle.py_grammar.specs.Line.{Line, line_depth}
 use Rattle.py_grammar.specs.LineReading.{read_line}
 use Rattle.py_grammar.proofs.Lines.{line_found, line_only, line_deep, line_none}
 use Rattle.py_grammar.proofs.Steps.{some_is}

@@ -3,7 +3,7 @@ use Rattle.std.proofs.Common.{◌≡◌, ℕ, ◌+◌, ◌==◌, true, List, [],
 use Rattle.std.specs.List.{list_all}
 use Rattle.flow_base.specs.declared.kinds.SyntaxKind.TheVariants.{Syntax}
 use Rattle.py_ast.specs.Statement as s
-use Rattle.py_ast.specs.Statement.{Statement, Block, empty, then, block_of, branches_of, handlers_of}
+use Rattle.py_ast.specs.Statement.{Statement, Block, empty, block_of, branches_of, handlers_of}
 use Rattle.py_ast.specs.Lawful.{Place}
 use Rattle.py_grammar.specs.Line as l
 use Rattle.py_grammar.specs.Line.{Line, Header}

@@ -1,16 +1,16 @@
 -- Lines stand as a block exactly where the levels, run over them, end as it; and they begin a cell exactly where they can be run.
-use Rattle.std.proofs.Common.{◌≡◌, ℕ, Bool, true, false, List, [], ◌∷◌, ◌++◌, Option, Some, None, refl, sym, ap, ◌∙◌, subst, append-nil}
+use Rattle.std.proofs.Common.{◌≡◌, ℕ, List, [], ◌∷◌, ◌++◌, Some, None, refl, sym, ap, ◌∙◌, append-nil}
 use Rattle.py_ast.specs.Statement as t
-use Rattle.py_ast.specs.Statement.{Statement, Block, empty, branches_of, handlers_of, no_branches, no_handlers}
-use Rattle.py_ast.specs.Lawful.{Place, inner, top}
+use Rattle.py_ast.specs.Statement.{Statement, Block, empty}
+use Rattle.py_ast.specs.Lawful.{Place, top}
 use Rattle.py_grammar.specs.Line as l
 use Rattle.py_grammar.specs.Blocks as g
-use Rattle.py_grammar.specs.Blocks.{Placed, of, head, put, Stands, Suite, Begins}
-use Rattle.py_grammar.specs.Reading.{◌>>=◌, on}
+use Rattle.py_grammar.specs.Blocks.{Placed, of, head, put, Stands, Begins}
+use Rattle.py_grammar.specs.Reading.{◌>>=◌}
 use Rattle.py_grammar.proofs.Steps.{some_is, bind_ok}
 use Rattle.py_block.specs.Machine.{Waiting, Last, nothing, whole, after_if, after_while, after_for, after_try, after_except, after_else, waits, place_of, filled, Outer, State, start, waiting_of, run, accepted}
-use Rattle.py_block.proofs.Basics.{list_of, block_of_list}
-use Rattle.py_block.proofs.Means.{Follows, of_nothing, of_whole, of_if, of_while, of_for, of_try, of_except, of_else, of_waits, Level, Stack, Means, run_means, started_stands, accepted_stands}
+use Rattle.py_block.proofs.Basics.{block_of_list}
+use Rattle.py_block.proofs.Means.{Follows, of_nothing, of_whole, of_if, of_while, of_for, of_try, of_except, of_else, of_waits, Level, Stack, run_means, started_stands}
 use Rattle.py_block.proofs.Spelled.{result, result_runs, result_append, stands_read, filled_not_waiting}
 
 pub stands_accepted : (lines : List Placed) (b : Block) → Stands top lines b → (run start lines >>= accepted) ≡ Some b

@@ -1,17 +1,17 @@
 -- The statements that a text spells are those of a lawful cell.
-use Rattle.std.proofs.Common.{◌≡◌, ℕ, zero, suc, ◌+◌, ◌≤◌, ◌<◌, ◌≤ℤ◌, pos, Bool, true, false, nat_le, if◌then◌else◌, List, [], ◌∷◌, map, Option, Some, None, refl, sym, ap, ◌∙◌, subst, arith, ◌⊎◌, inl, inr}
+use Rattle.std.proofs.Common.{◌≡◌, ℕ, ◌+◌, ◌≤◌, ◌<◌, ◌≤ℤ◌, Bool, true, false, nat_le, if◌then◌else◌, List, [], ◌∷◌, Option, Some, None, ◌∙◌, arith, ◌⊎◌, inl, inr}
 use Rattle.std.proofs.lemmas.Int.{ints}
 use Rattle.std.proofs.lemmas.Bool.{cases_Bool, leb-true, leb-false}
 use Rattle.py_scalars.specs.NumberForm.{number_of}
 use Rattle.py_scalars.specs.TextForm.{text_of}
-use Rattle.py_ast.specs.Statement.{Statement, Block}
+use Rattle.py_ast.specs.Statement.{Block}
 use Rattle.py_ast.specs.Lawful.{top, IsBlock}
 use Rattle.py_lexer.specs.declared.token.TokenKind.{TokenKind}
 use Rattle.py_lexer.specs.declared.token.TokenKind.TheVariants.{Word, Number as NumberToken, Text as TextToken, Op, LineEnd, Unsupported}
 use Rattle.py_lexer.specs.declared.token.Token.{Token}
 use Rattle.py_layout.specs.declared.line.LogicalLine.{LogicalLine}
 use Rattle.py_grammar.specs.Line as l
-use Rattle.py_grammar.specs.Line.{Header, Line, line_depth}
+use Rattle.py_grammar.specs.Line.{Line, line_depth}
 use Rattle.py_grammar.specs.Blocks.{Placed}
 use Rattle.py_grammar.specs.declared.mark.Mark.{Mark}
 use Rattle.py_grammar.specs.declared.sign.Sign.{Sign}
@@ -20,7 +20,7 @@ use Rattle.py_grammar.proofs.LawfulForms.{AreNatural}
 use Rattle.py_grammar.proofs.LawfulBlocks.{line_lawful, IsShallow, AreLines, stands_lawful}
 use Rattle.py_signs.specs.Signs.{is_keyword, keyword_of, operator_of, or_else, name_sign, number_sign, text_sign, sign_of, text_of_token, sign_of_token, signs_of}
 use Rattle.py_block.specs.Parsed.{tokens_of, with_line_ends}
-use Rattle.py_block.specs.Cell.{counted, Spelled, IsOver, expression, stands_deep, counts_deep, AreSpelled, HoldsOfNone, SpellsText}
+use Rattle.py_block.specs.Cell.{counted, IsOver, expression, counts_deep, AreSpelled, HoldsOfNone, SpellsText}
 use Rattle.py_block.specs.Cell as c
 
 -- ---- no sign of a token is a number below 0

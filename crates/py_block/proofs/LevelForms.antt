@@ -1,6 +1,6 @@
 -- What each form of statement stands for, and the numbers of its nodes.
 use Rattle.std.proofs.Common.{◌≡◌, ℕ, Bool, true, List, [], ◌∷◌, ◌++◌, map, refl, sym, ap, ◌∙◌, Option, option_map}
-use Rattle.py_ast.specs.Tree.{Tree, Trees}
+use Rattle.py_ast.specs.Tree.{Tree}
 use Rattle.py_ast.specs.Statement as t
 use Rattle.std.proofs.lemmas.List.{map-append}
 use Rattle.py_ast.specs.Nodes.{Node, below_stmt, nodes, nodes_of_all, nodes_of_block, nodes_of_branches, nodes_of_handlers, nodes_of_maybe, number_of, stmt_number, stmt_number_in}
@@ -16,8 +16,8 @@ use Rattle.py_ast.specs.declared.stmt.Stmt.TheVariants as w
 use Rattle.py_ast.specs.declared.stmt.Branch.{Branch, out-Branch}
 use Rattle.py_ast.specs.declared.stmt.Handler.{Handler, out-Handler}
 use Rattle.py_ast.specs.declared.stmt.Stmt.TheOpen as s
-use Rattle.py_ast.specs.declared.stmt.Stmt.TheOpen.{Stmt-F, Branch-F, Handler-F}
-use Rattle.py_ast.specs.declared.stmt.Stmt.TheFolds.{fold-Branch, fold-Handler, map-Stmt, map-Branch, map-Handler, fold-roll-Stmt, fold-roll-Branch, fold-roll-Handler}
+use Rattle.py_ast.specs.declared.stmt.Stmt.TheOpen.{Stmt-F}
+use Rattle.py_ast.specs.declared.stmt.Stmt.TheFolds.{fold-Branch, fold-Handler, map-Stmt, fold-roll-Stmt, fold-roll-Branch, fold-roll-Handler}
 use Rattle.py_ast.specs.declared.stmt.Stmt.TheViews.{out-roll-Stmt, roll-out-Stmt, roll-out-Branch, roll-out-Handler}
 use Rattle.py_grammar.specs.Blocks.{is_allowed}
 

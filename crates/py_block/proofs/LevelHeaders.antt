@@ -1,5 +1,5 @@
 -- Which headers go on with a statement, and levels after them.
-use Rattle.std.proofs.Common.{◌≡◌, ℕ, Bool, true, false, List, [], ◌∷◌, ◌++◌, map, refl, sym, ap, ◌∙◌, Option, Some, None}
+use Rattle.std.proofs.Common.{◌≡◌, ℕ, Bool, true, false, List, [], ◌∷◌, ◌++◌, refl, ◌∙◌, Some, None}
 use Rattle.py_ast.specs.Tree.{Tree}
 use Rattle.py_ast.specs.Statement.{Block, empty}
 use Rattle.py_grammar.specs.Line as l

@@ -21,7 +21,7 @@ use Rattle.py_line.specs.Form.{numbers, numbers_of_form, statements_of}
 use Rattle.py_line.specs.declared.form.LineForm.TheVariants as f
 use Rattle.py_block.specs.Machine as m
 use Rattle.py_block.specs.LevelAnswers.{GoesOn, IsBegun, IsContinued, IsFilled, IsFilledRow, IsJoined, IsSimples, with_simples, IsNextOf, IsPut, IsRow, IsSettled, beside, with_last}
-use Rattle.py_block.specs.LevelViews.{block_numbers, branch_numbers, branch_of, expr_numbers, exprs_numbers, last_numbers, last_of, maybe_numbers, place_at, place_of, row_of, waiting_numbers, waiting_of}
+use Rattle.py_block.specs.LevelViews.{block_numbers, branch_numbers, branch_of, expr_numbers, exprs_numbers, last_numbers, last_of, maybe_numbers, place_at, place_of, waiting_numbers, waiting_of}
 use Rattle.py_block.specs.declared.level_parts.Body.{Body}
 use Rattle.py_block.specs.declared.level_parts.Last.{Last}
 use Rattle.py_block.specs.declared.level_parts.Last.TheVariants as t

@@ -1,17 +1,16 @@
 -- Lists of statements, branches and clauses that grow at their end, and the numbers in them.
-use Rattle.std.proofs.Common.{◌≡◌, ◌<◌, ◌+◌, ◌&&◌, ℕ, Bool, true, false, List, [], ◌∷◌, ◌++◌, map, drop, length, slice_index_or, refl, sym, ap, ◌∙◌, Option, append_assoc, append-nil}
+use Rattle.std.proofs.Common.{◌≡◌, ◌<◌, ◌+◌, ◌&&◌, ℕ, Bool, true, false, List, [], ◌∷◌, ◌++◌, map, drop, length, slice_index_or, refl, sym, ap, ◌∙◌, append_assoc, append-nil}
 use Rattle.std.specs.List.{list_all}
 use Rattle.std.proofs.lemmas.List.{drop_more, map-append}
 use Rattle.py_ast.specs.Statement.{Statement, view_stmt}
-use Rattle.py_ast.specs.Nodes.{Node, flatten, number_of, nodes, nodes_of_all, nodes_of_maybe, nodes_of_block, nodes_of_branch, nodes_of_branches, nodes_of_handler, nodes_of_handlers, nodes_of_stmt}
-use Rattle.py_ast.specs.declared.expr.Expr.{Expr}
+use Rattle.py_ast.specs.Nodes.{Node, flatten, number_of, nodes, nodes_of_maybe, nodes_of_block, nodes_of_branch, nodes_of_branches, nodes_of_handler, nodes_of_handlers, nodes_of_stmt}
 use Rattle.py_ast.specs.declared.stmt.Stmt.{Stmt}
 use Rattle.py_ast.specs.declared.stmt.Branch.{Branch, out-Branch}
 use Rattle.py_ast.specs.declared.stmt.Handler.{Handler, out-Handler}
 use Rattle.py_ast.proofs.Below.{nodes_in_branch, nodes_below_handler}
 use Rattle.py_line.specs.Form.{statements_of, numbers}
 use Rattle.py_block.specs.Machine as m
-use Rattle.py_block.specs.LevelViews.{block_numbers, branch_numbers, branch_of, expr_numbers, exprs_numbers, handler_numbers, handler_of, maybe_numbers, outer_numbers, outer_of, outers_numbers, outers_of, outers_onto, stmt_numbers}
+use Rattle.py_block.specs.LevelViews.{block_numbers, branch_numbers, branch_of, expr_numbers, handler_numbers, handler_of, maybe_numbers, outer_numbers, outer_of, outers_numbers, outers_of, outers_onto, stmt_numbers}
 use Rattle.py_block.specs.declared.level_parts.Outer.{Outer}
 
 -- ---- walks over statements

@@ -1,7 +1,7 @@
 -- The open levels after one line more: levels that are closed and opened.
 use Rattle.std.proofs.Common.{◌≡◌, ◌==◌, ℕ, ◌+◌, Bool, true, false, if◌then◌else◌, List, [], ◌∷◌, ◌++◌, map, refl, sym, ap, ◌∙◌, subst, arith, eq-eqb, append_assoc, append-nil, length, length-append, take, ◌-◌, ◌<◌, eqb-true, Option, Some, None, option_map, Result, Ok, Err, IfOk}
 use Rattle.std.proofs.lemmas.Bool.{true≢false}
-use Rattle.py_ast.specs.Statement.{Statement, Block, block_of, view_cell}
+use Rattle.py_ast.specs.Statement.{Statement, block_of}
 use Rattle.py_ast.specs.Lawful as lawful
 use Rattle.py_ast.specs.Nodes.{nodes_of_cell, number_of}
 use Rattle.py_ast.specs.declared.cell.Cell.{Cell}
@@ -15,7 +15,7 @@ use Rattle.py_line.specs.Form.{line_of, numbers_of_form, statements_of}
 use Rattle.py_line.specs.declared.form.LineForm.{LineForm}
 use Rattle.py_block.specs.Machine as m
 use Rattle.py_block.specs.Opened.{IsEnded, IsPlaced, Opened, placed}
-use Rattle.py_block.specs.LevelAnswers.{IsAllClosed, IsCell, IsClosed, IsClosedInto, IsDeeper, IsDown, IsDownBy, IsEntered, IsFilled, IsFinished, IsPut, IsPutAt, IsReached, IsRefilled, IsSettled, at_level, closed, closed_by, down, with_row}
+use Rattle.py_block.specs.LevelAnswers.{IsAllClosed, IsCell, IsClosed, IsClosedInto, IsDeeper, IsDown, IsDownBy, IsEntered, IsFinished, IsPut, IsPutAt, IsReached, IsRefilled, IsSettled, at_level, closed, closed_by, down, with_row}
 use Rattle.py_block.specs.LevelViews.{after_of, block_numbers, last_numbers, last_of, open_numbers, opened_of, outer_numbers, outer_of, outers_numbers, outers_of, outers_onto, place_at, place_of, row_numbers, row_of, state_of, waiting_numbers, waiting_of}
 use Rattle.py_block.specs.declared.level_parts.After.{After}
 use Rattle.py_block.specs.declared.level_parts.After.TheVariants as a

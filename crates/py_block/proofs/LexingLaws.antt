@@ -1,13 +1,12 @@
 -- The functions that take tokens and lines one after another are what texts are cut into and tokens are put into.
-use Rattle.std.proofs.Common.{◌≡◌, ◌≢◌, ℕ, zero, suc, ◌+◌, ◌-◌, ◌≤◌, ◌<◌, ◌==◌, Bool, true, false, not, nat_lt, cond, if◌then◌else◌, List, [], ◌∷◌, ◌++◌, length, take, drop, get_or, Option, Some, None, Result, Ok, Err, refl, sym, ap, ◌∙◌, subst, arith, length-drop}
-use Rattle.std.proofs.lemmas.Bool.{cases_Bool, ltb-true, ltb-false, cond-true}
-use Rattle.std.specs.List.{prefix_len}
+use Rattle.std.proofs.Common.{◌≡◌, ◌≢◌, ℕ, zero, suc, ◌+◌, ◌-◌, ◌≤◌, ◌<◌, ◌==◌, Bool, true, false, not, nat_lt, cond, if◌then◌else◌, List, [], ◌∷◌, ◌++◌, length, take, drop, Option, Some, None, Result, Ok, Err, refl, ap, ◌∙◌, arith, length-drop}
+use Rattle.std.proofs.lemmas.Bool.{ltb-true, ltb-false, cond-true}
 use Rattle.py_scalars.specs.NumberForm.{is_digit}
 use Rattle.py_lexer.specs.declared.token.TokenKind.{TokenKind}
 use Rattle.py_lexer.specs.declared.token.Token.{Token}
 use Rattle.py_lexer.specs.Form.{is_name_start, is_quote}
 use Rattle.py_lexer.specs.Scan.{word_front, number_front, literal_front, other_front}
-use Rattle.py_lexer.specs.Cut.{Place, Cuts, IsFront, IsToken, HasNoToken, IsStuck, AreTokens, blank_len, behind, behind_token, token_at}
+use Rattle.py_lexer.specs.Cut.{Place, Cuts, IsFront, IsToken, IsStuck, AreTokens, blank_len, behind, behind_token, token_at}
 use Rattle.py_lexer.specs.Cut as lexer
 use Rattle.py_lexer.proofs.Cutting as cutting
 use Rattle.py_lexer.proofs.Fronts.{word_is_front, number_is_front, literal_is_front, other_is_front}

@@ -1,10 +1,10 @@
 -- What lines still to come make of the levels that are open: if a step leads to levels that lines complete to a block, the line
 -- and those lines complete the levels before it to the block.
-use Rattle.std.proofs.Common.{◌≡◌, ℕ, ◌+◌, ◌==◌, Bool, true, false, List, [], ◌∷◌, ◌++◌, Option, Some, None, option_map, refl, sym, ap, ◌∙◌, subst, append_assoc, append-nil, ◌⊎◌, inl, inr}
+use Rattle.std.proofs.Common.{◌≡◌, ℕ, ◌+◌, ◌==◌, Bool, true, List, [], ◌∷◌, ◌++◌, Option, Some, None, option_map, refl, sym, ap, ◌∙◌, subst, append_assoc, append-nil, ◌⊎◌, inl, inr}
 use Rattle.std.specs.List.{list_all}
 use Rattle.std.specs.Option.{is_some}
 use Rattle.std.proofs.lemmas.Bool.{eqb-true}
-use Rattle.py_ast.specs.Tree.{Tree, Trees}
+use Rattle.py_ast.specs.Tree.{Tree}
 use Rattle.py_ast.specs.Statement as s
 use Rattle.py_ast.specs.Statement.{Statement, Block, empty, then, Branches, no_branches, branch, Handlers, no_handlers, handler, block_of, branches_of, handlers_of}
 use Rattle.py_ast.specs.Lawful.{Place, inner, top}
@@ -12,7 +12,7 @@ use Rattle.py_grammar.specs.Line as l
 use Rattle.py_grammar.specs.Line.{Line, Header}
 use Rattle.py_grammar.specs.Blocks as g
 use Rattle.py_grammar.specs.Blocks.{Placed, of, head, is_allowed, put, Stands, Suite, Compound, Elifs, Else, Handled, Excepts, ElseFinally, Finally}
-use Rattle.py_grammar.specs.Reading.{◌>>=◌, on}
+use Rattle.py_grammar.specs.Reading.{◌>>=◌}
 use Rattle.py_grammar.proofs.Steps.{some_is, bind_ok, on_ok, if_ok}
 use Rattle.py_block.specs.Machine as m
 use Rattle.py_block.specs.Machine.{Branch, Clause, Waiting, Last, nothing, whole, after_if, after_while, after_for, after_try, after_except, after_else, waits, place_of, filled, settled, goes_on, starts, beside, Row, new_statement, on_header, on_simples, on_line, Outer, State, start, with_row, down, enter, waiting_of, step, run, ended, accepted}

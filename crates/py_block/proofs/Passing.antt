@@ -13,7 +13,6 @@ use Rattle.py_layout.specs.declared.line.LogicalLine.{LogicalLine}
 use Rattle.py_grammar.specs.Reading.{on}
 use Rattle.py_line.specs.declared.line.LineRead.{LineRead}
 use Rattle.py_block.specs.Machine as machine
-use Rattle.py_block.specs.Machine.{accepted, step}
 use Rattle.py_block.specs.Opened.{Opened, IsEnded}
 use Rattle.py_block.specs.NodeLines.{nodes_in}
 use Rattle.py_block.specs.Parsed.{Fault, Told, told, tokens_of, is_over, is_unsupported, first_number, ended, next_in, blocks}

@@ -1,20 +1,20 @@
 -- Lines that stand as a block are read: run over them, the levels end as that block, whatever follows at the levels round it.
-use Rattle.std.proofs.Common.{◌≡◌, ℕ, ◌+◌, ◌<◌, ◌≤◌, ◌==◌, Bool, true, false, List, [], ◌∷◌, ◌++◌, Option, Some, None, option_map, refl, sym, ap, ◌∙◌, subst, append_assoc, append-nil, ◌⊎◌, inl, inr, arith, if◌then◌else◌}
+use Rattle.std.proofs.Common.{◌≡◌, ℕ, ◌+◌, ◌<◌, ◌≤◌, ◌==◌, Bool, true, false, List, [], ◌∷◌, ◌++◌, Option, Some, None, option_map, refl, sym, ap, ◌∙◌, subst, append_assoc, append-nil, ◌⊎◌, arith, if◌then◌else◌}
 use Rattle.std.specs.List.{list_all}
 use Rattle.std.specs.Option.{is_some}
-use Rattle.py_ast.specs.Tree.{Tree, Trees}
+use Rattle.py_ast.specs.Tree.{Tree}
 use Rattle.py_ast.specs.Statement as t
-use Rattle.py_ast.specs.Statement.{Statement, Block, empty, Branches, no_branches, branch, Handlers, no_handlers, handler, block_of, branches_of, handlers_of}
-use Rattle.py_ast.specs.Lawful.{Place, inner, top}
+use Rattle.py_ast.specs.Statement.{Statement, Block, empty, Branches, branch, Handlers, no_handlers, handler, block_of, branches_of, handlers_of}
+use Rattle.py_ast.specs.Lawful.{Place, inner}
 use Rattle.py_grammar.specs.Line as l
 use Rattle.py_grammar.specs.Line.{Line, Header}
 use Rattle.py_grammar.specs.Blocks as g
-use Rattle.py_grammar.specs.Blocks.{Placed, of, head, is_allowed, put, Stands, Suite, Compound, Elifs, Else, Handled, Excepts, ElseFinally, Finally}
+use Rattle.py_grammar.specs.Blocks.{Placed, head, is_allowed, put, Stands, Suite, Compound, Elifs, Else, Handled, Excepts, ElseFinally, Finally}
 use Rattle.py_grammar.specs.Reading.{◌>>=◌, on}
-use Rattle.py_grammar.proofs.Steps.{some_is, bind_same, bind_bind}
+use Rattle.py_grammar.proofs.Steps.{bind_same, bind_bind}
 use Rattle.py_block.specs.Machine as m
-use Rattle.py_block.specs.Machine.{Branch, Clause, Waiting, Last, nothing, whole, after_if, after_while, after_for, after_try, after_except, after_else, waits, place_of, filled, settled, goes_on, starts, beside, Row, new_statement, on_header, on_simples, on_line, Outer, State, start, with_row, down, enter, waiting_of, step, run, ended, accepted}
-use Rattle.py_block.proofs.Basics.{equal_numbers, smaller_number, all_allowed, list_of, block_of_list, put_append, put_empty, list_of_put, tests_before, tests_alone, one_test_more, clauses_before, clauses_alone, one_clause_more}
+use Rattle.py_block.specs.Machine.{Branch, Clause, Waiting, Last, nothing, whole, after_if, after_while, after_for, after_try, after_except, after_else, waits, place_of, filled, settled, goes_on, starts, beside, Row, new_statement, on_header, on_simples, on_line, Outer, State, with_row, down, enter, waiting_of, step, run, ended, accepted}
+use Rattle.py_block.proofs.Basics.{equal_numbers, smaller_number, all_allowed, list_of, block_of_list, put_empty, list_of_put, tests_before, tests_alone, one_test_more, clauses_before, clauses_alone, one_clause_more}
 
 -- what comes of the levels by these lines
 abbrev pub result : State → List Placed → Option Block

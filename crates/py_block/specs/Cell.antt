@@ -1,8 +1,8 @@
 -- Which cell a text spells, and where a text that spells none has its fault.
-use Rattle.std.specs.Prelude.{◌≡◌, ℕ, ◌+◌, ◌<◌, ◌≤◌, List, [], ◌∷◌, ◌++◌, Bool, true, false, Result, Ok, Err, ◌⊎◌}
+use Rattle.std.specs.Prelude.{◌≡◌, ℕ, ◌+◌, ◌<◌, ◌≤◌, List, [], ◌∷◌, ◌++◌, true, Result, Ok, Err, ◌⊎◌}
 use Rattle.flow_base.specs.declared.kinds.SyntaxKind.{SyntaxKind}
 use Rattle.flow_base.specs.declared.kinds.SyntaxKind.TheVariants.{Lex, Layout, Unsupported, Limit, Syntax, Scope}
-use Rattle.py_ast.specs.Statement.{Statement, Block}
+use Rattle.py_ast.specs.Statement.{Block}
 use Rattle.py_ast.specs.Lawful.{top}
 use Rattle.py_lexer.specs.declared.token.Token.{Token}
 use Rattle.py_lexer.specs.Cut.{AreTokens}
@@ -11,7 +11,7 @@ use Rattle.py_layout.specs.declared.line.LogicalLine.{LogicalLine}
 use Rattle.py_layout.specs.Layout.{AreLines}
 use Rattle.py_layout.specs.Layout as layout
 use Rattle.py_grammar.specs.Line as l
-use Rattle.py_grammar.specs.Line.{Header, Line, SpellsLine, line_depth}
+use Rattle.py_grammar.specs.Line.{Line, SpellsLine, line_depth}
 use Rattle.py_grammar.specs.Blocks.{Placed, Stands, Begins}
 use Rattle.py_signs.specs.Signs.{signs_of}
 use Rattle.py_signs.specs.Limits.{has_unsupported, is_crowded, has_wide}

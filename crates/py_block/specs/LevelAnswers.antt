@@ -1,5 +1,5 @@
 -- What the parts of placing a line answer: the plain level that the machine answers, and the same numbers in the same order.
-use Rattle.std.specs.Prelude.{◌≡◌, ℕ, Bool, true, false, List, [], ◌∷◌, ◌++◌, map, Option, Some, None, option_map, Result, Ok, Err}
+use Rattle.std.specs.Prelude.{◌≡◌, ℕ, Bool, true, false, List, [], ◌∷◌, ◌++◌, Option, Some, None, option_map, Result, Ok, Err}
 use Rattle.std.specs.Global.{Vec}
 use Rattle.flow_base.specs.declared.no_memory.NoMemory.{NoMemory}
 use Rattle.py_ast.specs.Statement.{Statement, view_stmt, block_of}

@@ -1,8 +1,7 @@
 -- The plain levels that the program's own levels stand for, and the numbers of the nodes in them, in the order of the text.
-use Rattle.std.specs.Prelude.{◌≡◌, ℕ, ◌+◌, Bool, List, [], ◌∷◌, ◌++◌, map, Option, Some, None, option_map}
-use Rattle.std.specs.Global.{Vec}
+use Rattle.std.specs.Prelude.{◌≡◌, ℕ, ◌+◌, List, [], ◌∷◌, ◌++◌, map, Option, option_map}
 use Rattle.py_ast.specs.View.{view, views}
-use Rattle.py_ast.specs.Statement.{Statement, view_stmt, block_of}
+use Rattle.py_ast.specs.Statement.{view_stmt, block_of}
 use Rattle.py_ast.specs.Nodes.{nodes, nodes_of_all, nodes_of_maybe, nodes_of_block, nodes_of_stmt, nodes_of_branches, nodes_of_handlers}
 use Rattle.py_ast.specs.Lawful as lawful
 use Rattle.py_ast.specs.declared.expr.Expr.{Expr}

@@ -2,13 +2,12 @@
 use Rattle.std.specs.Prelude.{ℕ, ◌+◌, List, [], ◌∷◌, map, slice_range, Bool, true, false, ◌==◌, ◌&&◌, ◌||◌, nat_lt, if◌then◌else◌, Option, Some, None, Result, Ok, Err}
 use Rattle.flow_base.specs.declared.kinds.SyntaxKind.{SyntaxKind}
 use Rattle.flow_base.specs.declared.kinds.SyntaxKind.TheVariants.{Lex, Layout, Unsupported, Limit, Syntax}
-use Rattle.py_ast.specs.Statement.{Statement, Block}
+use Rattle.py_ast.specs.Statement.{Block}
 use Rattle.py_lexer.specs.declared.token.Token.{Token}
 use Rattle.py_layout.specs.declared.line.LogicalLine.{LogicalLine}
 use Rattle.py_grammar.specs.Line as l
 use Rattle.py_grammar.specs.Line.{Line}
 use Rattle.py_grammar.specs.LineReading.{read_line}
-use Rattle.py_grammar.specs.Blocks.{Placed}
 use Rattle.py_grammar.specs.Reading.{on}
 use Rattle.py_signs.specs.Signs.{signs_of}
 use Rattle.py_signs.specs.Limits.{has_unsupported, is_crowded, has_wide}

@@ -10,7 +10,7 @@ use Rattle.py_ast.specs.declared.expr.BinaryOp.{BinaryOp}
 use Rattle.py_grammar.specs.Grammar as g
 use Rattle.py_grammar.specs.Grammar.{Exprs, Spells, push}
 use Rattle.py_grammar.specs.Line as l
-use Rattle.py_grammar.specs.Line.{Targets, Lefts, Augments, Simple}
+use Rattle.py_grammar.specs.Line.{Targets, Lefts, Augments}
 use Rattle.py_grammar.specs.Kept.{some_of, is_target, target_of, Kept, keep, kept, is_kept_target, is_kept_place, KeptAll, no_trees}
 use Rattle.py_grammar.specs.Kept.{push_kept, keep_all, all_kept, is_none_kept}
 use Rattle.py_grammar.specs.Reading.{Reader, ◌>>=◌, on, giving, mark_at, marked, begins, exprs, nested, Inside}

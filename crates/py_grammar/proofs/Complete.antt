@@ -5,8 +5,8 @@ use Rattle.py_ast.specs.Tree as t
 use Rattle.py_ast.specs.Tree.{Tree, Trees, none, more}
 use Rattle.py_ast.specs.declared.expr.CompareOp.{CompareOp}
 use Rattle.py_grammar.specs.Grammar as g
-use Rattle.py_grammar.specs.Grammar.{Level, Atom, Primary, Power, Factor, Term, Sum, Comparison, Not, And, Or, Expr, Exprs, Spells}
-use Rattle.py_grammar.specs.Grammar.{Literals, Chain, Items, Row, Pairs, PairRow, SomeParams, Params, push}
+use Rattle.py_grammar.specs.Grammar.{Level, Primary, Factor, Term, Sum, Not, And, Or, Expr, Spells}
+use Rattle.py_grammar.specs.Grammar.{Chain, Items, Row, Pairs, PairRow, SomeParams, Params}
 use Rattle.py_grammar.specs.Kept.{place, value, Kept, keep, leaf, made, made_of_two, made_choice, made_list, made_dict, made_call}
 use Rattle.py_grammar.specs.Kept.{made_lambda, keep_all, push_kept, no_trees}
 use Rattle.py_grammar.specs.Reading.{Reader, ◌>>=◌, on, giving, up_to, if_mark, mark_at, begins, begins_name, sign_op, terms, sums, ands}

@@ -7,7 +7,7 @@ use Rattle.py_ast.specs.declared.expr.BinaryOp.{BinaryOp}
 use Rattle.py_ast.specs.declared.expr.SignOp.{SignOp}
 use Rattle.py_grammar.specs.Grammar as g
 use Rattle.py_grammar.specs.Grammar.{Level, Atom, Primary, Power, Factor, Term, Sum, Comparison, Not, And, Or, Expr, Exprs, Spells}
-use Rattle.py_grammar.specs.Grammar.{Literals, Chain, Items, Row, Pairs, PairRow, SomeParams, Signs, Scales, Adds, Compares}
+use Rattle.py_grammar.specs.Grammar.{Literals, Chain, Items, Pairs, SomeParams, Signs, Scales, Adds, Compares}
 use Rattle.py_grammar.specs.Reading.{mark_at, marked, begins, next_at, begins_name, next_name_at, sign_op, Group, terms, sums, ands, ors}
 use Rattle.py_grammar.specs.Reading.{join_of, arithmetic, compare_at, suffix_of, more_literals}
 use Rattle.py_grammar.specs.declared.mark.Mark.{Mark}

@@ -5,7 +5,7 @@ use Rattle.std.proofs.lemmas.List.{append-nil}
 use Rattle.py_ast.specs.Tree.{Tree, depth}
 use Rattle.py_grammar.specs.Grammar.{Expr, Exprs, Spells}
 use Rattle.py_grammar.specs.Line as l
-use Rattle.py_grammar.specs.Line.{Targets, Header, Heads, header_depth}
+use Rattle.py_grammar.specs.Line.{Header, Heads, header_depth}
 use Rattle.py_grammar.specs.Kept.{Kept, keep}
 use Rattle.py_grammar.specs.Reading.{◌>>=◌, on, giving, mark_at, name_at, begins, up_to, is_distinct, distinct_params, Parameters}
 use Rattle.py_grammar.specs.Reading.{params, expr, exprs, nested, Inside}

@@ -8,7 +8,7 @@ use Rattle.py_ast.specs.Statement.{Statement}
 use Rattle.py_grammar.specs.Kept.{some_of, is_target, are_targets, target_of, targets_of, Shape, if_targets, shape, whole, deep, keep, kept}
 use Rattle.py_grammar.specs.Kept.{is_kept_target, kept_target, is_kept_place, all, too_deep, keep_all, all_kept}
 use Rattle.py_grammar.specs.Line as line
-use Rattle.py_grammar.specs.Line.{Header, Line, simple_depth, simples_depth, header_depth, line_depth}
+use Rattle.py_grammar.specs.Line.{Header, simple_depth, simples_depth, header_depth}
 use Rattle.py_grammar.specs.LineReading.{both, with_simple, keep_simple, keep_simples, keep_header, keep_line}
 use Rattle.py_grammar.proofs.Kept.{shape_may}
 use Rattle.py_grammar.proofs.Targets.{IsPlaceTree}

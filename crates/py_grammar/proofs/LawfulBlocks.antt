@@ -1,22 +1,21 @@
 -- Lines within the limits that stand as a block are a block of a lawful cell.
-use Rattle.std.proofs.Common.{◌≡◌, ℕ, zero, suc, ◌+◌, ◌≤◌, ◌<◌, max, Bool, true, false, ◌&&◌, List, [], ◌∷◌, ◌++◌, length, Option, Some, None, refl, sym, ap, ◌∙◌, subst, arith, length-append}
+use Rattle.std.proofs.Common.{◌≡◌, ℕ, ◌+◌, ◌≤◌, ◌<◌, max, true, ◌&&◌, List, [], ◌∷◌, ◌++◌, length, Option, Some, None, refl, sym, ◌∙◌, subst, arith, length-append}
 use Rattle.py_ast.specs.Tree as t
 use Rattle.py_ast.specs.Tree.{Tree, Trees, none, more, depth, deepest}
 use Rattle.py_ast.specs.Statement as s
-use Rattle.py_ast.specs.Statement.{Statement, Block, empty, then, Branches, no_branches, branch, Handlers, no_handlers, handler}
-use Rattle.py_ast.specs.Lawful.{AreDistinct, AreParams, IsForm, AreForms, IsPlace, IsTarget, AreTargets, IsWhole, AreWhole, IsWholeOrNone, Place, inner, loop_body, def_body, class_body, top, IsSome, IsTry, IsClause, IsStatement, IsBlock, AreBranches, AreHandlers}
+use Rattle.py_ast.specs.Statement.{Statement, Block, empty, Branches, Handlers, no_handlers}
+use Rattle.py_ast.specs.Lawful.{AreParams, IsForm, AreForms, IsPlace, IsTarget, AreTargets, IsWhole, AreWhole, IsWholeOrNone, Place, inner, IsSome, IsTry, IsClause, IsStatement, IsBlock, AreBranches, AreHandlers}
 use Rattle.py_grammar.specs.Grammar as g
-use Rattle.py_grammar.specs.Grammar.{Spells, Items, push}
+use Rattle.py_grammar.specs.Grammar.{push}
 use Rattle.py_grammar.specs.Line as l
-use Rattle.py_grammar.specs.Line.{Target, Members, TargetRow, Targets, Lefts, Names, Simple, SomeSimples, Simples, Header, Heads, Line, SpellsLine, depth_of_maybe, simple_depth, simples_depth, header_depth, line_depth}
+use Rattle.py_grammar.specs.Line.{Target, Members, TargetRow, Targets, Lefts, Names, Simple, SomeSimples, Simples, Header, Heads, Line, SpellsLine, simple_depth, simples_depth, header_depth, line_depth}
 use Rattle.py_grammar.specs.Blocks as b
-use Rattle.py_grammar.specs.Blocks.{Placed, of, head, is_allowed, AreAllowed, put, Stands, Suite, Compound, Elifs, Else, Handled, Excepts, ElseFinally, Finally}
+use Rattle.py_grammar.specs.Blocks.{Placed, head, is_allowed, AreAllowed, put, Stands, Suite, Compound, Elifs, Else, Handled, Excepts, ElseFinally, Finally}
 use Rattle.py_grammar.specs.declared.mark.Mark.TheVariants as m
 use Rattle.py_grammar.specs.declared.sign.Sign.{Sign}
 use Rattle.py_grammar.specs.declared.sign.Sign.TheVariants.{Name, Mark as The}
-use Rattle.py_grammar.proofs.Targets.{place_spelled}
 use Rattle.std.proofs.lemmas.List.{append-nil}
-use Rattle.py_grammar.proofs.LawfulForms.{AreNatural, natural_front, natural_back, spelled_form, push_forms, AreCounted, params_forms}
+use Rattle.py_grammar.proofs.LawfulForms.{AreNatural, natural_front, natural_back, spelled_form, push_forms, params_forms}
 
 -- ---- targets
 

@@ -1,12 +1,11 @@
 -- What signs spell has the forms that lawful cells have, where no number among the signs is below 0.
-use Rattle.std.proofs.Common.{◌≡◌, ℕ, zero, suc, ◌+◌, ◌≤◌, ◌<◌, pos, ◌≤ℤ◌, Bool, true, false, ◌&&◌, List, [], ◌∷◌, ◌++◌, length, Option, Some, None, refl, sym, ap, ◌∙◌, subst, arith, length-append}
-use Rattle.std.specs.List.{list_all}
+use Rattle.std.proofs.Common.{◌≡◌, ℕ, suc, ◌+◌, ◌≤◌, ◌<◌, pos, ◌≤ℤ◌, ◌&&◌, List, [], ◌∷◌, ◌++◌, length, refl, ap, ◌∙◌, arith, length-append}
 use Rattle.py_ast.specs.Tree as t
 use Rattle.py_ast.specs.Tree.{Tree, Trees, none, more}
 use Rattle.py_ast.specs.declared.expr.CompareOp.{CompareOp}
-use Rattle.py_ast.specs.Lawful.{count, AreInPairs, AreDistinct, AreParams, IsForm, AreForms, IsTarget, AreTargets}
+use Rattle.py_ast.specs.Lawful.{count, AreInPairs, IsForm, AreForms}
 use Rattle.py_grammar.specs.Grammar as g
-use Rattle.py_grammar.specs.Grammar.{Level, Spells, Chain, Items, Row, Pairs, PairRow, SomeParams, Params, Literals, push}
+use Rattle.py_grammar.specs.Grammar.{Level, Spells, Chain, Items, Row, Pairs, PairRow, SomeParams, Params, push}
 use Rattle.py_grammar.specs.declared.mark.Mark.TheVariants as m
 use Rattle.py_grammar.specs.declared.sign.Sign.{Sign}
 use Rattle.py_grammar.specs.declared.sign.Sign.TheVariants.{Name, Number, Text, Mark as The}

@@ -5,7 +5,7 @@ use Rattle.std.proofs.lemmas.List.{append-nil}
 use Rattle.std.proofs.lemmas.Bool.{cases_lt}
 use Rattle.py_ast.specs.Statement.{Statement}
 use Rattle.py_grammar.specs.Line as l
-use Rattle.py_grammar.specs.Line.{Lefts, Simple, SomeSimples, Simples, Header, Heads, Line, SpellsLine, line_depth}
+use Rattle.py_grammar.specs.Line.{Simple, SomeSimples, Simples, Header, Heads, Line, SpellsLine, line_depth}
 use Rattle.py_grammar.specs.Reading.{◌>>=◌, on, mark_at, marked, mark_begins, nested, Inside}
 use Rattle.py_grammar.specs.LineReading.{both, Head, head_of, is_empty, keep_simples, keep_header, keep_line, whole, simples, header}
 use Rattle.py_grammar.specs.LineReading.{after_colon, header_line, simple_line, read_line}

@@ -4,7 +4,7 @@ use Rattle.py_ast.specs.Tree as t
 use Rattle.py_ast.specs.Tree.{Tree, Trees, none, more}
 use Rattle.py_ast.specs.declared.expr.CompareOp.{CompareOp}
 use Rattle.py_grammar.specs.Grammar as g
-use Rattle.py_grammar.specs.Grammar.{Level, Atom, Primary, Power, Factor, Term, Sum, Comparison, Not, And, Or, Expr, Exprs, Spells, Chain}
+use Rattle.py_grammar.specs.Grammar.{Level, Factor, Term, Sum, Comparison, Not, And, Or, Expr, Exprs, Spells, Chain}
 use Rattle.py_grammar.specs.Grammar.{Items, Row, Pairs, PairRow, SomeParams, Params, push}
 use Rattle.py_grammar.specs.Kept.{value, made_of_two, Kept, keep, KeptAll, keep_all, alone, compared, made_tuple}
 use Rattle.py_grammar.specs.Reading.{Inside, Group, terms, sums, ands, ors, Join, arithmetic, conjunction, disjunction, join_of, joined}

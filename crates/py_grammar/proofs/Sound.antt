@@ -3,11 +3,11 @@ use Rattle.std.proofs.Common.{◌≡◌, ℕ, ◌≤◌, ◌<◌, true, false, L
 use Rattle.std.proofs.Common.{length-append, append_assoc, inl, inr}
 use Rattle.std.proofs.lemmas.List.{append-nil}
 use Rattle.py_ast.specs.Tree as t
-use Rattle.py_ast.specs.Tree.{Tree, Trees, none, more}
+use Rattle.py_ast.specs.Tree.{Tree, none, more}
 use Rattle.py_ast.specs.declared.expr.SignOp.{SignOp}
 use Rattle.py_ast.specs.declared.expr.CompareOp.{CompareOp}
 use Rattle.py_grammar.specs.Grammar as g
-use Rattle.py_grammar.specs.Grammar.{Level, Atom, Primary, Power, Factor, Term, Sum, Comparison, Not, And, Or, Expr, Exprs, Spells}
+use Rattle.py_grammar.specs.Grammar.{Atom, Primary, Power, Factor, Term, Sum, Comparison, Exprs, Spells}
 use Rattle.py_grammar.specs.Grammar.{Literals, push}
 use Rattle.py_grammar.specs.Kept.{place, value, Kept, keep, leaf, made, made_of_two, made_list, made_dict, made_call, keep_all, compared}
 use Rattle.py_grammar.specs.Reading.{Reader, ◌>>=◌, on, giving, up_to, mark_at, name_at, marked, sign_op, compare_at, Group, terms, sums}

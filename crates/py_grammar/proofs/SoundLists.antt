@@ -3,7 +3,7 @@ use Rattle.std.proofs.Common.{◌≡◌, ℕ, zero, suc, ◌<◌, List, ◌∷�
 use Rattle.std.proofs.Common.{arith, inl, inr}
 use Rattle.std.proofs.lemmas.List.{append-nil}
 use Rattle.py_ast.specs.Tree as t
-use Rattle.py_ast.specs.Tree.{Tree, Trees, none, more}
+use Rattle.py_ast.specs.Tree.{Tree, none, more}
 use Rattle.py_grammar.specs.Grammar as g
 use Rattle.py_grammar.specs.Grammar.{Level, Atom, Primary, Power, Factor, Term, Sum, Comparison, Not, And, Or, Expr, Exprs, Spells, push}
 use Rattle.py_grammar.specs.Kept.{value, Kept, keep, made, made_choice, made_tuple, alone, KeptAll, push_kept}

@@ -4,7 +4,7 @@ use Rattle.std.proofs.Common.{arith, inl, inr}
 use Rattle.py_ast.specs.Tree as t
 use Rattle.py_ast.specs.Tree.{Tree, Trees, none, more}
 use Rattle.py_grammar.specs.Grammar as g
-use Rattle.py_grammar.specs.Grammar.{Level, Atom, Primary, Power, Factor, Term, Sum, Comparison, Not, And, Or, Expr, Exprs, Spells, push}
+use Rattle.py_grammar.specs.Grammar.{Expr, Spells, push}
 use Rattle.py_grammar.specs.Kept.{Kept, keep, made_lambda, keep_all}
 use Rattle.py_grammar.specs.Kept.{is_none_kept}
 use Rattle.py_grammar.specs.Reading.{◌>>=◌, on, giving, if_mark, mark_at, name_at, begins_name, next_name_at}

@@ -7,7 +7,7 @@ use Rattle.py_ast.specs.Tree as t
 use Rattle.py_ast.specs.Tree.{Tree, Trees, none, more}
 use Rattle.py_grammar.specs.Grammar.{Primary, Spells, push}
 use Rattle.py_grammar.specs.Line as l
-use Rattle.py_grammar.specs.Line.{Target, Members, TargetRow, Targets}
+use Rattle.py_grammar.specs.Line.{Members, Targets}
 use Rattle.py_grammar.specs.Kept.{some_of, is_target, are_targets, target_of, targets_of, Kept, keep, is_kept_target, kept_target, KeptAll}
 use Rattle.py_grammar.specs.Kept.{no_trees, push_kept, keep_all, alone, made_tuple}
 use Rattle.py_grammar.specs.Reading.{Reader, ◌>>=◌, on, giving, mark_at, begins, next_at, primary, end_of_exprs, nested, Inside}

@@ -5,7 +5,7 @@ use Rattle.std.proofs.lemmas.Bool.{and_from, and_parts}
 use Rattle.py_ast.specs.Tree as t
 use Rattle.py_ast.specs.Tree.{Tree, Trees, none, more}
 use Rattle.py_grammar.specs.Grammar as g
-use Rattle.py_grammar.specs.Grammar.{Level, Atom, Primary, Power, Factor, Term, Sum, Comparison, Not, And, Or, Expr, Exprs, Spells, Items}
+use Rattle.py_grammar.specs.Grammar.{Level, Primary, Expr, Exprs, Spells, Items}
 use Rattle.py_grammar.specs.Grammar.{Row, push}
 use Rattle.py_grammar.specs.Line as l
 use Rattle.py_grammar.specs.Line.{Place, Target, Members, TargetRow, Targets}

@@ -7,7 +7,7 @@ use Rattle.py_ast.specs.Statement as stmt
 use Rattle.py_ast.specs.Statement.{Statement}
 use Rattle.py_grammar.specs.Grammar.{Level, Expr, Exprs, Spells}
 use Rattle.py_grammar.specs.Line as l
-use Rattle.py_grammar.specs.Line.{Targets, Names, Simple, simple_depth}
+use Rattle.py_grammar.specs.Line.{Names, Simple, simple_depth}
 use Rattle.py_grammar.specs.Kept.{Kept, keep, kept}
 use Rattle.py_grammar.specs.Reading.{Reader, ◌>>=◌, on, giving, mark_at, name_at, begins, expr, exprs, nested, Inside}
 use Rattle.py_grammar.specs.LineReading.{Word, pass, break, continue, return, raise, global, nonlocal, delete, assert, word_of, maybe}

@@ -5,10 +5,10 @@
 --   `except` block; `finally` a `try` block, an `except` block, or the `else` block after an `except` block. A `try` has an `except` or a `finally`,
 --   and an `except` without a class is the last. The innermost `def` or `class` round a `return` is a `def`, and `break` and `continue` stand inside
 --   a loop of the same function and class body, which its `else` block is not.
-use Rattle.std.specs.Prelude.{◌≡◌, ℕ, ◌+◌, Bool, true, false, List, [], ◌∷◌, ◌++◌, Option, Some, None}
+use Rattle.std.specs.Prelude.{◌≡◌, ℕ, ◌+◌, Bool, true, List, [], ◌∷◌, ◌++◌, Option, Some}
 use Rattle.py_ast.specs.Tree.{Tree, Trees}
 use Rattle.py_ast.specs.Statement as s
-use Rattle.py_ast.specs.Statement.{Statement, Block, empty, then, Branches, no_branches, branch, Handlers, no_handlers, handler, block_of}
+use Rattle.py_ast.specs.Statement.{Statement, Block, empty, then, Branches, no_branches, branch, Handlers, no_handlers, handler}
 use Rattle.py_ast.specs.Lawful.{Place, inner, loop_body, def_body, class_body, top}
 use Rattle.py_grammar.specs.Line as l
 use Rattle.py_grammar.specs.Line.{Line, Header}

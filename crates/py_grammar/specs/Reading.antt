@@ -3,7 +3,7 @@
 use Rattle.std.specs.Prelude.{ℕ, zero, suc, Bool, true, false, ◌==◌, ◌&&◌, not, if◌then◌else◌, List, [], ◌∷◌, ◌++◌, length, bytes_eq, Option, Some, None}
 use Rattle.std.specs.List.{list_any}
 use Rattle.py_ast.specs.Tree as t
-use Rattle.py_ast.specs.Tree.{Tree, Trees, none, more}
+use Rattle.py_ast.specs.Tree.{Tree, none}
 use Rattle.py_ast.specs.declared.expr.BinaryOp.{BinaryOp}
 use Rattle.py_ast.specs.declared.expr.BinaryOp.TheVariants as b
 use Rattle.py_ast.specs.declared.expr.SignOp.{SignOp}

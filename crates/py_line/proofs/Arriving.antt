@@ -12,7 +12,7 @@ use Rattle.py_line.specs.declared.frame.Brackets.TheVariants as b
 use Rattle.py_line.specs.declared.frame.Rung.{Rung}
 use Rattle.py_line.specs.declared.frame.Frame.{Frame}
 use Rattle.py_line.specs.States.{with_last}
-use Rattle.py_line.specs.Waiting.{Read, rank, phrase, waits, gives, turn, wanted, closed, pairs_ended, after, before, onward}
+use Rattle.py_line.specs.Waiting.{Read, rank, phrase, gives, turn, wanted, closed, pairs_ended, after, before, onward}
 use Rattle.py_line.proofs.Rungs.{bind_some, wanted_last, arrives, arrives_whole}
 
 -- nothing waits yet

@@ -1,18 +1,18 @@
 -- The steps of the loop over what waits: operands, what stands before one, and the parameters of a lambda.
-use Rattle.std.proofs.Common.{◌≡◌, ℕ, ◌+◌, ◌≤◌, ◌<◌, nat_le, Bool, true, false, if◌then◌else◌, List, [], ◌∷◌, ◌++◌, length, Option, Some, None, refl, sym, ap, ◌∙◌, arith, inl, inr}
+use Rattle.std.proofs.Common.{◌≡◌, ℕ, ◌+◌, ◌≤◌, ◌<◌, nat_le, true, false, if◌then◌else◌, List, [], ◌∷◌, ◌++◌, length, Option, Some, None, refl, sym, ap, ◌∙◌, arith, inl, inr}
 use Rattle.std.proofs.lemmas.Bool.{leb-true, le-leb}
 use Rattle.py_ast.specs.Tree as t
 use Rattle.py_ast.specs.declared.expr.CompareOp.{CompareOp}
 use Rattle.py_ast.specs.declared.expr.SignOp.{SignOp}
 use Rattle.py_grammar.specs.Grammar as level
-use Rattle.py_grammar.specs.Kept.{Kept, KeptAll, leaf, made, made_choice, made_lambda, value, compared, no_trees, is_none_kept}
+use Rattle.py_grammar.specs.Kept.{leaf, made, made_choice, made_lambda, value, compared, is_none_kept}
 use Rattle.py_grammar.specs.Reading.{◌>>=◌, on, giving, mark_at, if_mark, marked, sign_op, name_at, begins_name, next_name_at, compare_at, with_operand, more_chain, Parameters, no_params, with_default, plain_param}
-use Rattle.py_grammar.specs.Reading.{more_literals, marked_atom, is_distinct, distinct_params, param_onto, param_turn, more_params, rest_of_params, params, lambda_body, lambda, factor, power, negated, comparison, expr, disjunctions, condition}
+use Rattle.py_grammar.specs.Reading.{more_literals, marked_atom, is_distinct, param_onto, param_turn, more_params, rest_of_params, params, lambda_body, lambda, factor, power, negated, comparison, expr, disjunctions, condition}
 use Rattle.py_grammar.specs.declared.mark.Mark.{Mark}
 use Rattle.py_grammar.specs.declared.mark.Mark.TheVariants as m
 use Rattle.py_grammar.specs.declared.sign.Sign.{Sign}
 use Rattle.py_grammar.specs.declared.sign.Sign.TheVariants.{Name, Number, Text, Mark as The, Other}
-use Rattle.py_grammar.proofs.Steps.{some_is, bind_same, bind_bind, if_ok, Shrinks, loop_stops, loop_goes}
+use Rattle.py_grammar.proofs.Steps.{some_is, bind_bind, if_ok, Shrinks, loop_stops, loop_goes}
 use Rattle.py_grammar.proofs.SoundParams.{params_shrinks}
 use Rattle.py_line.specs.declared.frame.Rung.{Rung}
 use Rattle.py_line.specs.declared.frame.Rung.TheVariants as r
@@ -25,9 +25,9 @@ use Rattle.py_line.specs.declared.frame.Opening.{Opening}
 use Rattle.py_line.specs.declared.frame.Opening.TheVariants as o
 use Rattle.py_line.specs.Views.{kept_of, chained_of, params_of}
 use Rattle.py_line.specs.Full.{full}
-use Rattle.py_line.specs.Waiting.{Read, rank, next, phrase, rise, climb_to, waits, gives, turn, lambda_after, param_after, plain_after, asked, lambda_in, not_in, sign_in, opening_of, past_comma, wanted, resume, after, before, between}
+use Rattle.py_line.specs.Waiting.{rank, phrase, climb_to, turn, lambda_after, param_after, plain_after, asked, lambda_in, not_in, sign_in, opening_of, past_comma, wanted, resume, after, before, between}
 use Rattle.py_line.proofs.Insides.{fixed, full_sound}
-use Rattle.py_line.proofs.Rungs.{bind_some, on_at_none, inner, of_operand, of_factor, of_not, goes_up, waits_more, arrives}
+use Rattle.py_line.proofs.Rungs.{bind_some, on_at_none, of_operand, of_factor, of_not, waits_more}
 use Rattle.py_line.proofs.Going.{on_at_some, chain_more, chain_stops}
 use Rattle.py_line.proofs.Closing.{turns_to, if_true, if_false, if_past}
 

@@ -1,9 +1,9 @@
 -- The steps of the loop over what waits: brackets, and what follows a phrase in them.
-use Rattle.std.proofs.Common.{◌≡◌, ℕ, ◌+◌, ◌≤◌, ◌<◌, Bool, true, false, if◌then◌else◌, List, [], ◌∷◌, ◌++◌, length, Option, Some, None, refl, sym, ap, ◌∙◌, arith}
+use Rattle.std.proofs.Common.{◌≡◌, ℕ, ◌+◌, ◌≤◌, ◌<◌, Bool, true, false, if◌then◌else◌, List, [], ◌∷◌, ◌++◌, Option, Some, None, refl, sym, ap, ◌∙◌, arith}
 use Rattle.py_ast.specs.Tree as t
 use Rattle.py_grammar.specs.Grammar as level
-use Rattle.py_grammar.specs.Kept.{Kept, KeptAll, leaf, made_of_two, made_choice, made_list, made_dict, made_call, value, place, push_kept, no_trees}
-use Rattle.py_grammar.specs.Reading.{◌>>=◌, on, giving, mark_at, if_mark, up_to, marked, begins, next_at, name_at, loop, Suffix, attributed, subscripted, called, suffix_of, suffix}
+use Rattle.py_grammar.specs.Kept.{Kept, KeptAll, leaf, made_of_two, made_list, made_dict, made_call, place, push_kept, no_trees}
+use Rattle.py_grammar.specs.Reading.{◌>>=◌, on, giving, mark_at, if_mark, up_to, marked, begins, next_at, name_at, Suffix, attributed, subscripted, called, suffix_of, suffix}
 use Rattle.py_grammar.specs.Reading.{attribute_of, more_primary, marked_atom, expr, items_turn, more_items, items, row, end_of_exprs, exprs, pair_onto, pair_turn, more_pairs, pairs, pair_row}
 use Rattle.py_grammar.specs.declared.mark.Mark.{Mark}
 use Rattle.py_grammar.specs.declared.mark.Mark.TheVariants as m
@@ -21,10 +21,10 @@ use Rattle.py_line.specs.declared.kept.Kept.{Kept as Held}
 use Rattle.py_line.specs.declared.kept.KeptAll.{KeptAll as HeldAll}
 use Rattle.py_line.specs.Views.{kept_of, all_of}
 use Rattle.py_line.specs.Full.{full}
-use Rattle.py_line.specs.Waiting.{Read, rank, next, phrase, rise, waits, gives, turn, listed, closed, closed_pairs, pairs_ended, past_comma, wanted, after, before}
+use Rattle.py_line.specs.Waiting.{Read, rank, phrase, rise, waits, gives, turn, listed, closed, closed_pairs, pairs_ended, past_comma, wanted, after, before}
 use Rattle.py_line.proofs.Insides.{fixed, fixed_row, fixed_pair_row, full_sound}
-use Rattle.py_line.proofs.Rungs.{on_at_none, inner, goes_up, waits_more, arrives}
-use Rattle.py_line.proofs.Going.{on_at_some, loops_on, ends_on, stays, ends_nowhere, goes_round}
+use Rattle.py_line.proofs.Rungs.{on_at_none, goes_up, waits_more}
+use Rattle.py_line.proofs.Going.{on_at_some, stays}
 
 pub if_true : {A : Type 0} (c : Bool) (x y : A) → c ≡ true → (if c then x else y) ≡ x
 if_true true x y e = refl

@@ -5,14 +5,14 @@ use Rattle.py_ast.specs.declared.expr.BinaryOp.{BinaryOp}
 use Rattle.py_ast.specs.declared.expr.CompareOp.{CompareOp}
 use Rattle.py_grammar.specs.Grammar as level
 use Rattle.py_grammar.specs.Kept as k
-use Rattle.py_grammar.specs.Kept.{Kept, KeptAll, made, made_of_two, made_choice, value, place, compared, push_kept, no_trees}
-use Rattle.py_grammar.specs.Reading.{Reader, ◌>>=◌, on, giving, mark_at, marked, sign_op, loop, power_of, name_at, factor, grouped_turn, term, sum, chain_turn, compare_at}
-use Rattle.py_grammar.specs.Reading.{Group, terms, sums, ands, ors, Join, join_of, joined, arithmetic, conjunction, disjunction, Suffix, attributed, subscripted, called, suffix_of, suffix}
-use Rattle.py_grammar.specs.Reading.{more_primary, more_grouped, more_chain, one_operand, with_operand, Chained, negated, conjunctions, disjunctions, condition, attribute_of}
+use Rattle.py_grammar.specs.Kept.{Kept, made_of_two, made_choice, value, compared}
+use Rattle.py_grammar.specs.Reading.{Reader, ◌>>=◌, on, giving, mark_at, marked, power_of, factor, grouped_turn, term, sum, chain_turn, compare_at}
+use Rattle.py_grammar.specs.Reading.{Group, terms, sums, ands, ors, Join, join_of, joined, arithmetic, conjunction, disjunction}
+use Rattle.py_grammar.specs.Reading.{more_grouped, more_chain, one_operand, with_operand, Chained, negated, conjunctions, disjunctions, condition}
 use Rattle.py_grammar.specs.declared.mark.Mark.TheVariants as m
 use Rattle.py_grammar.specs.declared.sign.Sign.{Sign}
-use Rattle.py_grammar.proofs.Steps.{bind_same, bind_bind, on_same, Shrinks, loop_stops, loop_goes}
-use Rattle.py_grammar.proofs.Sound.{suffix_shrinks, grouped_shrinks, chain_shrinks, factor_sound, term_sound}
+use Rattle.py_grammar.proofs.Steps.{bind_same, bind_bind, Shrinks, loop_stops, loop_goes}
+use Rattle.py_grammar.proofs.Sound.{grouped_shrinks, chain_shrinks, factor_sound, term_sound}
 use Rattle.py_grammar.proofs.SoundLists.{negated_sound, conjunctions_sound}
 use Rattle.py_line.specs.declared.frame.Rung.{Rung}
 use Rattle.py_line.specs.declared.frame.Rung.TheVariants as r
@@ -24,7 +24,7 @@ use Rattle.py_line.specs.Views.{kept_of, chained_of}
 use Rattle.py_line.specs.Full.{full}
 use Rattle.py_line.specs.Waiting.{Read, rank, next, phrase, rise, waits, gives, turn, wanted, after, before}
 use Rattle.py_line.proofs.Insides.{fixed, full_sound}
-use Rattle.py_line.proofs.Rungs.{on_at_none, inner, goes_up, waits_more, arrives}
+use Rattle.py_line.proofs.Rungs.{on_at_none, goes_up, waits_more}
 
 pub on_at_some : {A B : Type 0} (o : Option A) (b : B) (f : A → B) (x : A) → o ≡ Some x → on o b f ≡ f x
 on_at_some o b f x e = ap (λ o. on o b f) e

@@ -1,7 +1,6 @@
 -- Where nothing is left: whether there are expressions, whether all of the signs are read, and the statements after a colon.
 use Rattle.std.proofs.Common.{◌≡◌, ℕ, suc, ◌==◌, Bool, true, false, List, [], ◌∷◌, length, Option, Some, None, option_map, refl, ◌∙◌, ◌<◌, arith}
 use Rattle.std.proofs.lemmas.Bool.Decides.{nat_tests}
-use Rattle.py_ast.specs.Statement.{Statement}
 use Rattle.py_ast.specs.View.{views}
 use Rattle.py_ast.specs.declared.expr.Expr.{Expr}
 use Rattle.py_grammar.specs.Kept.{all, is_none_kept}

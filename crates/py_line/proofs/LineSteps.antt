@@ -1,9 +1,5 @@
 -- The loops of a line and of what stands in it, over nestings that do not run out.
-use Rattle.std.proofs.Common.{◌≡◌, ℕ, suc, ◌==◌, Bool, false, ◌∙◌, List, [], ◌∷◌, length, Option, Some, arith}
-use Rattle.std.proofs.lemmas.Bool.Decides.{nat_tests}
-use Rattle.py_ast.specs.View.{views}
-use Rattle.py_ast.specs.declared.expr.Expr.{Expr}
-use Rattle.py_grammar.specs.Kept.{all, is_none_kept}
+use Rattle.std.proofs.Common.{◌≡◌, ℕ, ◌==◌, ◌∙◌, List, [], ◌∷◌, Option, Some, arith}
 use Rattle.py_grammar.specs.LineReading.{equals_at, next_simple_at, places_turn, assigned_turn, simples_turn}
 use Rattle.py_grammar.specs.Reading.{Reader, next_at, next_name_at, loop, items_turn, param_turn}
 use Rattle.py_grammar.specs.declared.sign.Sign.{Sign}

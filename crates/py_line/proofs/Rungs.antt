@@ -2,9 +2,9 @@
 use Rattle.std.proofs.Common.{◌≡◌, ℕ, zero, suc, ◌+◌, ◌-◌, ◌≤◌, ◌<◌, List, [], ◌∷◌, ◌++◌, length, slice_get, Option, Some, None, refl, sym, ap, ◌∙◌, arith}
 use Rattle.py_ast.specs.Tree as t
 use Rattle.py_grammar.specs.Grammar as level
-use Rattle.py_grammar.specs.Kept.{Kept, made, made_of_two, value, compared}
-use Rattle.py_grammar.specs.Reading.{◌>>=◌, on, giving, mark_at, marked, sign_op, power_of, primary, power, factor, grouped_over, term, sum, chain, comparison}
-use Rattle.py_grammar.specs.Reading.{more_chain, one_operand, negated, conjunctions, disjunctions, condition, params, lambda_body, lambda, expr, start}
+use Rattle.py_grammar.specs.Kept.{made, made_of_two, value}
+use Rattle.py_grammar.specs.Reading.{◌>>=◌, on, giving, mark_at, marked, sign_op, power_of, primary, power, factor, grouped_over, sum, chain, comparison}
+use Rattle.py_grammar.specs.Reading.{negated, disjunctions, condition, lambda, expr}
 use Rattle.py_grammar.specs.declared.mark.Mark.TheVariants as m
 use Rattle.py_grammar.specs.declared.sign.Sign.{Sign}
 use Rattle.py_grammar.proofs.Steps.{some_is, bind_same, bind_bind, on_same}

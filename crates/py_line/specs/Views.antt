@@ -1,5 +1,4 @@
 -- What the program's own values stand for.
-use Rattle.std.specs.Prelude.{List}
 use Rattle.py_ast.specs.View.{view, views}
 use Rattle.py_grammar.specs.Kept as k
 use Rattle.py_grammar.specs.Reading as reading

@@ -6,7 +6,7 @@ use Rattle.py_ast.specs.declared.expr.SignOp.{SignOp}
 use Rattle.py_grammar.specs.Grammar as level
 use Rattle.py_grammar.specs.Grammar.{Level}
 use Rattle.py_grammar.specs.Kept.{Kept, KeptAll, made, made_of_two, made_choice, made_list, made_dict, made_call, made_lambda, compared, push_kept, place, value}
-use Rattle.py_grammar.specs.Reading.{Reader, ◌>>=◌, on, giving, mark_at, marked, sign_op, if_mark, up_to, start, factor, term, negated, conjunctions, expr}
+use Rattle.py_grammar.specs.Reading.{Reader, ◌>>=◌, on, giving, mark_at, marked, sign_op, if_mark, up_to, start, factor, term, negated, conjunctions}
 use Rattle.py_grammar.specs.Reading.{more_primary, more_grouped, more_chain, more_items, more_pairs, param_onto, plain_param, rest_of_params, lambda_body, condition}
 use Rattle.py_grammar.specs.Reading.{terms, sums, ands, ors, arithmetic, conjunction, disjunction, joined, power_of, one_operand, with_operand, with_default, end_of_exprs}
 use Rattle.py_grammar.specs.declared.mark.Mark.{Mark}

@@ -12,7 +12,7 @@ use Rattle.py_ast.specs.declared.stmt.Stmt.{Stmt, roll-Stmt}
 use Rattle.py_ast.specs.declared.stmt.Branch.{Branch, roll-Branch}
 use Rattle.py_ast.specs.declared.stmt.Handler.{Handler, roll-Handler}
 use Rattle.py_ast.specs.declared.stmt.Stmt.TheOpen as s
-use Rattle.py_ast.specs.declared.stmt.Stmt.TheOpen.{Stmt-F, Branch-F, Handler-F}
+use Rattle.py_ast.specs.declared.stmt.Stmt.TheOpen.{Stmt-F}
 use Rattle.py_ast.specs.declared.cell.Cell.{Cell}
 
 -- what is made of a part, where the parts after it are numbered from the number behind it

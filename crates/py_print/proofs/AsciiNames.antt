@@ -1,5 +1,5 @@
 -- A name of ASCII characters is equal to its NFKC form.
-use Rattle.std.proofs.Common.{◌≡◌, ℕ, ◌<◌, All, List, Bool, true, false, ◌||◌, Option, Some, None, refl, sym, ap, ◌∙◌}
+use Rattle.std.proofs.Common.{◌≡◌, ℕ, ◌<◌, All, List, Bool, true, false, ◌||◌, Option, Some, None, refl, sym, ◌∙◌}
 use Rattle.std.specs.Option.{is_some}
 use Rattle.unicode_normalization.specs.Forms.{nfkc}
 use Rattle.py_grammar.specs.declared.mark.Mark.{Mark}

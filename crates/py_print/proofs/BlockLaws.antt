@@ -1,16 +1,14 @@
 -- The printed lines of a lawful block stand as the block.
-use Rattle.std.proofs.Common.{◌≡◌, ℕ, ◌+◌, Bool, true, List, [], ◌∷◌, ◌++◌, map, Option, Some, None, refl, sym, ap, ◌∙◌, subst, append_assoc}
+use Rattle.std.proofs.Common.{◌≡◌, ℕ, ◌+◌, true, List, [], ◌∷◌, ◌++◌, map, Option, Some, None, refl, sym, ap, ◌∙◌, subst, append_assoc}
 use Rattle.std.proofs.lemmas.List.{map-append}
-use Rattle.py_ast.specs.Tree.{Tree, Trees}
+use Rattle.py_ast.specs.Tree.{Tree}
 use Rattle.py_ast.specs.Statement as s
 use Rattle.py_ast.specs.Statement.{Statement, Block, empty, then, Branches, no_branches, branch, Handlers, no_handlers, handler}
-use Rattle.py_ast.specs.Lawful.{IsWhole, Place, inner, loop_body, def_body, class_body, IsSome, HasHandler, IsTry, IsClause, IsStatement, IsBlock, AreBranches, AreHandlers}
+use Rattle.py_ast.specs.Lawful.{Place, inner, loop_body, def_body, class_body, IsSome, HasHandler, IsTry, IsStatement, IsBlock, AreBranches, AreHandlers}
 use Rattle.py_grammar.specs.Line as l
-use Rattle.py_grammar.specs.Line.{Header}
 use Rattle.py_grammar.specs.Blocks as blocks
 use Rattle.py_grammar.specs.Blocks.{Placed, head, is_allowed, Stands, Suite, Compound, Elifs, Else, Handled, Excepts, ElseFinally, Finally}
 use Rattle.py_print.specs.Printed.{PrintedLine, placed, if_there, lines_of, statement, tests, catches}
-use Rattle.py_print.proofs.LineLaws.{IsPlain}
 
 -- the lines of the grammar
 abbrev of_all : List PrintedLine → List Placed

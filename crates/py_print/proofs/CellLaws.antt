@@ -1,5 +1,6 @@
 -- The printed text of a block spells it.
-use Rattle.std.proofs.Common.{◌≡◌, ℕ, List, [], ◌∷◌, map, Result, Ok, refl, sym, subst}
+use Rattle.std.proofs.Common.{◌≡◌, ℕ, List, [], ◌∷◌, map, Ok, sym, subst}
+use Rattle.std.specs.List.{AllByRecursion}
 use Rattle.py_ast.specs.Statement.{Block}
 use Rattle.py_ast.specs.Lawful.{top, IsBlock}
 use Rattle.py_lexer.specs.Cut.{AreTokens}
@@ -9,15 +10,15 @@ use Rattle.py_block.specs.Parsed.{parsed, with_line_ends}
 use Rattle.py_block.specs.Cell.{SpellsText}
 use Rattle.py_block.proofs.CellLaws.{spelled_parsed}
 use Rattle.py_print.specs.Pieces.{signs_in}
-use Rattle.py_print.specs.Printed.{PrintedLine, pieces, placed, lines_of, lines_text, printed}
-use Rattle.py_print.specs.Spelled.{Every, IsWritten, AreWritten}
+use Rattle.py_print.specs.Printed.{PrintedLine, pieces, placed, lines_of, printed}
+use Rattle.py_print.specs.Spelled.{IsWritten, AreWritten}
 use Rattle.py_print.proofs.Rows.{IsLawfulLine, block_rows}
 use Rattle.py_print.proofs.BlockLaws.{block_stands}
 use Rattle.py_print.proofs.Steps.{lines_step}
 use Rattle.py_print.proofs.LineEnds.{ends_stay}
-use Rattle.py_print.proofs.LineCuts.{IsPrintable, all_tokens, are_tokens, AreLaid, lines_laid}
+use Rattle.py_print.proofs.LineCuts.{IsPrintable, all_tokens, are_tokens, lines_laid}
 
-both : (xs : List PrintedLine) → Every IsLawfulLine xs → Every (λ x. Every IsWritten (signs_in (pieces x.row))) xs → Every IsPrintable xs
+both : (xs : List PrintedLine) → AllByRecursion IsLawfulLine xs → AllByRecursion (λ x. AllByRecursion IsWritten (signs_in (pieces x.row))) xs → AllByRecursion IsPrintable xs
 both [] h w = tt
 both (x ∷ xs) h w = ((h.0, w.0), both xs h.1 w.1)
 

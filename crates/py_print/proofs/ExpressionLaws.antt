@@ -1,5 +1,5 @@
 -- What is printed of an expression spells it.
-use Rattle.std.proofs.Common.{◌≡◌, Bool, true, false, List, [], ◌∷◌, ◌++◌, refl, sym, ap, ◌∙◌, subst}
+use Rattle.std.proofs.Common.{◌≡◌, Bool, true, false, List, [], ◌∷◌, ◌++◌, sym, ap, ◌∙◌, subst}
 use Rattle.py_ast.specs.Tree as t
 use Rattle.py_ast.specs.Tree.{Tree, Trees, none, more}
 use Rattle.py_ast.specs.Lawful.{IsForm, AreForms}
@@ -8,9 +8,9 @@ use Rattle.py_ast.specs.declared.expr.BinaryOp.TheVariants as b
 use Rattle.py_ast.specs.declared.expr.SignOp.{SignOp}
 use Rattle.py_ast.specs.declared.expr.SignOp.TheVariants as p
 use Rattle.py_grammar.specs.Grammar as g
-use Rattle.py_grammar.specs.Grammar.{Level, Atom, Primary, Factor, Term, Sum, Not, And, Or, Expr, Exprs, Spells, Signs}
+use Rattle.py_grammar.specs.Grammar.{Level, Primary, Factor, Sum, Not, And, Or, Expr, Exprs, Spells, Signs}
 use Rattle.py_grammar.specs.declared.mark.Mark.TheVariants as m
-use Rattle.py_grammar.specs.declared.sign.Sign.TheVariants.{Name, Mark as The}
+use Rattle.py_grammar.specs.declared.sign.Sign.TheVariants.{Mark as The}
 use Rattle.py_print.specs.Pieces.{Piece, space, signs_in, mark, name, in_squares, in_parens, between, after_space, commas}
 use Rattle.py_print.specs.Expressions.{operation_level, level_of, at, left_place, right_place, before_dot, operator, sign_mark, params_of, printed, members, expr_at}
 use Rattle.py_print.proofs.SignsIn.{signs_append, signs_between, signs_behind, signs_after_space}

@@ -1,26 +1,24 @@
 -- However the statements of a block are put on lines, they are the same in their order, with the same headers.
-use Rattle.std.proofs.Common.{◌≡◌, ℕ, ℤ, ◌+◌, List, [], ◌∷◌, ◌++◌, map, Option, Some, None, refl, sym, ap, ◌∙◌, subst, append_assoc}
-use Rattle.std.specs.List.{flat_map}
-use Rattle.std.proofs.lemmas.List.{append-nil, map-append}
-use Rattle.py_ast.specs.Tree.{Tree, Trees}
+use Rattle.std.proofs.Common.{◌≡◌, ℕ, ℤ, ◌+◌, List, [], ◌∷◌, ◌++◌, map, Some, refl, sym, ap, ◌∙◌, append_assoc}
+use Rattle.std.specs.List.{AllByRecursion}
+use Rattle.std.proofs.lemmas.List.{map-append}
 use Rattle.py_ast.specs.Statement as s
-use Rattle.py_ast.specs.Statement.{Statement, Block, empty, then, Branches, no_branches, branch, Handlers, no_handlers, handler}
-use Rattle.py_ast.specs.Lawful.{Place, inner, loop_body, def_body, class_body}
+use Rattle.py_ast.specs.Statement.{Statement, Block, empty, Branches, Handlers}
+use Rattle.py_ast.specs.Lawful.{Place}
 use Rattle.py_grammar.specs.Line as l
-use Rattle.py_grammar.specs.Line.{Simple, SomeSimples, Simples, Header, Heads, Line, SpellsLine}
+use Rattle.py_grammar.specs.Line.{Simple, SomeSimples, Simples, Header, Line, SpellsLine}
 use Rattle.py_grammar.specs.Blocks as blocks
-use Rattle.py_grammar.specs.Blocks.{Placed, head, put, Stands, Suite, Compound, Elifs, Else, Handled, Excepts, ElseFinally, Finally}
+use Rattle.py_grammar.specs.Blocks.{Placed, put, Stands, Suite, Compound, Elifs, Else, Handled, Excepts, ElseFinally, Finally}
 use Rattle.py_grammar.specs.declared.sign.Sign.{Sign}
 use Rattle.py_print.specs.Printed.{Row, simple, header, PrintedLine, simple_at, if_there, lines_of, statement, tests, catches}
-use Rattle.py_print.specs.Spelled.{Every}
 use Rattle.py_print.proofs.LineLaws.{IsPlain}
 use Rattle.py_print.proofs.Rows.{every_append}
 
-pub every_front : {X : Type 0} (P : X → Type 0) (xs ys : List X) → Every P (xs ++ ys) → Every P xs
+pub every_front : {X : Type 0} (P : X → Type 0) (xs ys : List X) → AllByRecursion P (xs ++ ys) → AllByRecursion P xs
 every_front P [] ys h = tt
 every_front P (x ∷ xs) ys h = (h.0, every_front P xs ys h.1)
 
-pub every_back : {X : Type 0} (P : X → Type 0) (xs ys : List X) → Every P (xs ++ ys) → Every P ys
+pub every_back : {X : Type 0} (P : X → Type 0) (xs ys : List X) → AllByRecursion P (xs ++ ys) → AllByRecursion P ys
 every_back P [] ys h = h
 every_back P (x ∷ xs) ys h = every_back P xs ys h.1
 
@@ -49,11 +47,11 @@ rows_append xs ys = map-append row xs ys
 
 -- the statements of a line have no blocks
 abbrev pub IsPlainLine : Line → Type 0
-IsPlainLine (l.simples xs) = Every IsPlain xs
-IsPlainLine (l.header h xs) = Every IsPlain xs
+IsPlainLine (l.simples xs) = AllByRecursion IsPlain xs
+IsPlainLine (l.header h xs) = AllByRecursion IsPlain xs
 
 abbrev pub ArePlain : List Placed → Type 0
-ArePlain xs = Every (λ (x : Placed). IsPlainLine x.line) xs
+ArePlain xs = AllByRecursion (λ (x : Placed). IsPlainLine x.line) xs
 
 simple_plain : {xs : List Sign} {x : Statement} → Simple xs x → IsPlain x
 simple_plain (l.expression s) = tt
@@ -72,11 +70,11 @@ simple_plain (l.delete s) = tt
 simple_plain (l.assert s) = tt
 simple_plain (l.assert_message s r) = tt
 
-some_plain : {xs : List Sign} {ss : List Statement} → SomeSimples xs ss → Every IsPlain ss
+some_plain : {xs : List Sign} {ss : List Statement} → SomeSimples xs ss → AllByRecursion IsPlain ss
 some_plain (l.one_simple s) = (simple_plain s, tt)
 some_plain (l.and_simple {x = x} {before = before} s r) = every_append IsPlain before (x ∷ []) (some_plain s) (simple_plain r, tt)
 
-simples_plain : {xs : List Sign} {ss : List Statement} → Simples xs ss → Every IsPlain ss
+simples_plain : {xs : List Sign} {ss : List Statement} → Simples xs ss → AllByRecursion IsPlain ss
 simples_plain (l.some_simples s) = some_plain s
 simples_plain (l.simples_and_semicolon s) = some_plain s
 
@@ -102,7 +100,7 @@ statement_plain deep (s.delete a) h = refl
 statement_plain deep (s.assert a message) h = refl
 statement_plain deep _ h = absurd h
 
-put_rows : (deep : ℕ) (xs : List Statement) (b : Block) → Every IsPlain xs → rows (lines_of deep (put xs b)) ≡ map simple xs ++ rows (lines_of deep b)
+put_rows : (deep : ℕ) (xs : List Statement) (b : Block) → AllByRecursion IsPlain xs → rows (lines_of deep (put xs b)) ≡ map simple xs ++ rows (lines_of deep b)
 put_rows deep [] b h = refl
 put_rows deep (x ∷ xs) b h =
     ap (λ z. rows (z ++ lines_of deep (put xs b))) (statement_plain deep x h.0) ∙ ap (λ z. simple x ∷ z) (put_rows deep xs b h.1)
@@ -144,7 +142,7 @@ mutual
       ∙ ap (λ z. rows (statement p.deep x) ++ z) (stands_flat k (every_back (λ (x : Placed). IsPlainLine x.line) lines more h))
       ∙ sym (rows_append (statement p.deep x) (lines_of p.deep b))
 
-  suite_flat : {q : Place} {xs : List Statement} {lines : List Placed} {body : Block} → Suite q xs lines body → Every IsPlain xs → ArePlain lines
+  suite_flat : {q : Place} {xs : List Statement} {lines : List Placed} {body : Block} → Suite q xs lines body → AllByRecursion IsPlain xs → ArePlain lines
       → map simple xs ++ flat lines ≡ rows (lines_of q.deep body)
   suite_flat (blocks.beside {p} {x} {xs} e) k h = sym (put_rows p.deep (x ∷ xs) empty k)
   suite_flat (blocks.below k) n h = stands_flat k h

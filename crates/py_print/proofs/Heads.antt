@@ -1,5 +1,5 @@
 -- Each printed line begins with a sign.
-use Rattle.std.proofs.Common.{◌≡◌, ℕ, ◌+◌, ◌<◌, List, [], ◌∷◌, ◌++◌, Bool, true, false, nat_le, if◌then◌else◌, Option, Some, None, refl, sym, ap, ◌∙◌, subst, arith}
+use Rattle.std.proofs.Common.{◌≡◌, ℕ, ◌+◌, ◌<◌, List, [], ◌∷◌, ◌++◌, Bool, true, false, nat_le, if◌then◌else◌, Some, None, refl, ◌∙◌, arith}
 use Rattle.py_ast.specs.Tree as t
 use Rattle.py_ast.specs.Tree.{Tree, Trees, none, more}
 use Rattle.py_ast.specs.Statement as s
@@ -10,9 +10,8 @@ use Rattle.py_grammar.specs.Grammar.{Level, Primary, Sum, And, Or}
 use Rattle.py_grammar.specs.Line as l
 use Rattle.py_grammar.specs.Line.{Header}
 use Rattle.py_grammar.specs.declared.mark.Mark.TheVariants as m
-use Rattle.py_grammar.proofs.LawfulBlocks.{IsHeader}
 use Rattle.py_print.specs.Pieces.{Piece, sign, space, mark, name, in_parens, in_squares, between, commas}
-use Rattle.py_print.specs.Expressions.{rank, level_of, at, left_place, is_number, before_dot, operator, compared_on, compared, printed, members, operands}
+use Rattle.py_print.specs.Expressions.{rank, level_of, at, left_place, is_number, before_dot, compared_on, compared, printed, members, operands}
 use Rattle.py_print.specs.Lines as lines
 use Rattle.py_print.specs.Lines.{lefts, augmented}
 use Rattle.py_print.specs.Printed.{Row, simple, header, pieces}

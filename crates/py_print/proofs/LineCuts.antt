@@ -1,23 +1,19 @@
 -- The text of printed lines is cut into their tokens, and these are put into lines of the same depths, which spell what is printed.
-use Rattle.std.proofs.Common.{◌≡◌, ℕ, zero, suc, ◌+◌, ◌*◌, ◌-◌, ◌<◌, ◌≤◌, List, [], ◌∷◌, ◌++◌, length, take, drop, map, replicate, slice_range, Bool, true, false, ◌==◌, ◌&&◌, ◌||◌, not, if◌then◌else◌, Option, Some, None, refl, sym, ap, ◌∙◌, subst, ◌⊎◌, inl, inr, ⊎_elim, arith, append_assoc, length-append, option_map, option_and_then}
-use Rattle.std.specs.List.{flat_map, prefix_len}
+use Rattle.std.proofs.Common.{◌≡◌, ℕ, zero, suc, ◌+◌, ◌*◌, ◌-◌, ◌<◌, ◌≤◌, List, [], ◌∷◌, ◌++◌, length, drop, map, replicate, slice_range, true, false, ◌==◌, ◌&&◌, ◌||◌, not, if◌then◌else◌, Some, None, refl, sym, ap, ◌∙◌, subst, ◌⊎◌, ⊎_elim, arith, append_assoc, length-append, option_map, option_and_then}
+use Rattle.std.specs.List.{AllByRecursion}
 use Rattle.std.proofs.Math.Seq.{drop-append_seam}
-use Rattle.std.proofs.lemmas.Bool.{cases_Bool, or_parts, cond-true, cond-false, false_from_ne_true}
-use Rattle.py_lexer.specs.Form.{is_name_start, token_kind}
-use Rattle.py_lexer.specs.Scan.{other_front}
+use Rattle.std.proofs.lemmas.Bool.{or_parts, cond-true, cond-false, false_from_ne_true}
 use Rattle.py_lexer.specs.declared.token.TokenKind.{TokenKind}
 use Rattle.py_lexer.specs.declared.token.TokenKind.TheVariants.{LineEnd}
 use Rattle.py_lexer.specs.declared.token.Token.{Token}
-use Rattle.py_lexer.specs.Cut.{Place, Cuts, AreTokens, IsToken, HasNoToken, blank_len, behind, behind_token, token_at}
+use Rattle.py_lexer.specs.Cut.{Place, Cuts, AreTokens, blank_len, behind, behind_token, token_at}
 use Rattle.py_lexer.specs.Cut as lexer
 use Rattle.py_lexer.proofs.Cutting.{blank_no_token}
 use Rattle.py_layout.specs.declared.line.LogicalLine.{LogicalLine}
-use Rattle.py_layout.specs.Layout.{Spot, Lays, AreLines, is_line_end, indent_of, stack_after, line_len, entered, behind_end, behind_line, line_at}
+use Rattle.py_layout.specs.Layout.{Spot, Lays, is_line_end, indent_of, stack_after, line_len, entered, behind_end, behind_line, line_at}
 use Rattle.py_layout.specs.Layout as layout
 use Rattle.py_grammar.specs.Line as l
-use Rattle.py_grammar.specs.Line.{Line, SpellsLine, line_depth}
-use Rattle.py_grammar.specs.Blocks.{Placed}
-use Rattle.py_grammar.specs.declared.sign.Sign.{Sign}
+use Rattle.py_grammar.specs.Line.{SpellsLine, line_depth}
 use Rattle.py_grammar.proofs.Lines.{one_line}
 use Rattle.py_signs.specs.Signs.{signs_of}
 use Rattle.py_signs.specs.Limits.{has_unsupported, is_crowded, has_wide}
@@ -25,19 +21,19 @@ use Rattle.py_block.specs.Lexing.{front_of}
 use Rattle.py_block.specs.Parsed.{tokens_of, with_line_ends}
 use Rattle.py_block.specs.Cell as c
 use Rattle.py_block.specs.Cell.{counted, IsOver, HoldsOfNone}
-use Rattle.py_print.specs.Pieces.{Piece, sign, space, signs_in, sign_text, text_of}
+use Rattle.py_print.specs.Pieces.{Piece, sign, space, signs_in, text_of}
 use Rattle.py_print.specs.Printed.{Row, simple, header, PrintedLine, pieces, line, placed, line_text, lines_text}
-use Rattle.py_print.specs.Spelled.{Every, IsSpelled, IsWritten}
-use Rattle.py_print.proofs.Classes.{free, kind_of_sign}
+use Rattle.py_print.specs.Spelled.{IsWritten}
+use Rattle.py_print.proofs.Classes.{free}
 use Rattle.py_print.proofs.WordFronts.{no_start}
 use Rattle.py_print.proofs.MarkFronts.{other_of}
 use Rattle.py_print.proofs.SignFronts.{end_goes}
-use Rattle.py_print.proofs.Rows.{IsRow, IsLawfulLine, row_spelled}
-use Rattle.py_print.proofs.RowRuns.{RunsWhole, row_runs, row_depth}
+use Rattle.py_print.proofs.Rows.{IsLawfulLine, row_spelled}
+use Rattle.py_print.proofs.RowRuns.{row_runs, row_depth}
 use Rattle.py_print.proofs.Heads.{is_headed, row_headed}
 use Rattle.py_print.proofs.Steps.{AreSteps}
 use Rattle.py_print.proofs.Widths.{widths, widths_length, stack_is}
-use Rattle.py_print.proofs.PieceCuts.{HasFront, head_front, tokens_at, place_after, is_token, token_cut, space_cut, pieces_cut, nested_after, at_after, slice_is, AreTexts, texts_of, signs_are, all_supported, no_ends, all_narrow, not_crowded}
+use Rattle.py_print.proofs.PieceCuts.{head_front, tokens_at, place_after, is_token, token_cut, space_cut, pieces_cut, nested_after, at_after, slice_is, AreTexts, texts_of, signs_are, all_supported, no_ends, all_narrow, not_crowded}
 
 -- ---- places and tokens
 
@@ -71,7 +67,7 @@ all_after p (x ∷ xs) = all_after (next p x) xs
 
 -- a lawful line whose names and numbers a text can hold
 abbrev pub IsPrintable : PrintedLine → Type 0
-IsPrintable x = IsLawfulLine x × Every IsWritten (signs_in (pieces x.row))
+IsPrintable x = IsLawfulLine x × AllByRecursion IsWritten (signs_in (pieces x.row))
 
 spaces_at : (n : ℕ) (p : Place) → (after_spaces n p).at ≡ p.at + n
 spaces_at zero p = omega arith
@@ -120,11 +116,11 @@ line_cut {q} {us} {end} p x rest h n d =
     (cuts_on (pieces_cut 200 free 0 (pieces x.row) r.last 0 (10 ∷ rest) r.whole h.1 (end_goes r.last rest) (begins p x))
     (token_cut (ends p x) (10 ∷ []) rest LineEnd (end_front (ends p x).nested rest (ends_flat p x h n)) d)))
 
-lines_cut : (p : Place) (xs : List PrintedLine) → Every IsPrintable xs → p.nested ≡ 0 → Cuts p (lines_text xs) (all_tokens p xs) (all_after p xs) []
+lines_cut : (p : Place) (xs : List PrintedLine) → AllByRecursion IsPrintable xs → p.nested ≡ 0 → Cuts p (lines_text xs) (all_tokens p xs) (all_after p xs) []
 lines_cut p [] h n = lexer.here
 lines_cut p (x ∷ xs) h n = line_cut p x (lines_text xs) h.0 n (lines_cut (next p x) xs h.1 (ends_flat p x h.0 n))
 
-pub are_tokens : (xs : List PrintedLine) → Every IsPrintable xs → AreTokens (lines_text xs) (all_tokens lexer.start xs)
+pub are_tokens : (xs : List PrintedLine) → AllByRecursion IsPrintable xs → AreTokens (lines_text xs) (all_tokens lexer.start xs)
 are_tokens xs h = (all_after lexer.start xs, lines_cut lexer.start xs h refl)
 
 -- ---- indentation
@@ -149,7 +145,7 @@ text_indented n nested (c ∷ text) x e = let b = no_blank nested c text x e in 
 
 -- ---- lines
 
-line_long : (ts : List Token) (e : Token) (more : List Token) → Every (λ (t : Token). is_line_end t.kind ≡ false) ts → is_line_end e.kind ≡ true
+line_long : (ts : List Token) (e : Token) (more : List Token) → AllByRecursion (λ (t : Token). is_line_end t.kind ≡ false) ts → is_line_end e.kind ≡ true
     → line_len (ts ++ e ∷ more) ≡ length ts
 line_long [] e more h k = cond-false (not (is_line_end e.kind)) (1 + line_len more) 0 (ap not k)
 line_long (t ∷ ts) e more h k =
@@ -157,7 +153,7 @@ line_long (t ∷ ts) e more h k =
     cond-true (not (is_line_end t.kind)) (1 + line_len (ts ++ e ∷ more)) 0 (ap not h.0) ∙ omega arith
 
 line_lays : {last : Spot} {lines : List LogicalLine} (text : List ℕ) (s : Spot) (t : Token) (ts : List Token) (e : Token) (more : List Token) (stack : List ℕ)
-    → Every (λ (t : Token). is_line_end t.kind ≡ false) (t ∷ ts) → is_line_end e.kind ≡ true → entered text s ≡ Some stack
+    → AllByRecursion (λ (t : Token). is_line_end t.kind ≡ false) (t ∷ ts) → is_line_end e.kind ≡ true → entered text s ≡ Some stack
     → Lays text (behind_end (behind_line s stack (length (t ∷ ts))) e) more lines last []
     → Lays text s ((t ∷ ts) ++ e ∷ more) (line_at s t stack (length (t ∷ ts)) ∷ lines) last []
 line_lays {last} {lines} text s t ts e more stack h k i d =
@@ -220,7 +216,7 @@ module _ (text : List ℕ) (tokens : List Token) (stay : with_line_ends text ≡
     pub within : HoldsOfNone (IsOver text tokens) lines
 
   first_laid : (s : Spot) (x : PrintedLine) (xs : List PrintedLine) (t : Token) (ts : List Token) (e : Token) (more : List Token) (stack : List ℕ)
-      → Every (λ (t : Token). is_line_end t.kind ≡ false) (t ∷ ts) → is_line_end e.kind ≡ true → entered text s ≡ Some stack
+      → AllByRecursion (λ (t : Token). is_line_end t.kind ≡ false) (t ∷ ts) → is_line_end e.kind ≡ true → entered text s ≡ Some stack
       → IsLineOf x (line_at s t stack (length (t ∷ ts)))
       → AreLaid (behind_end (behind_line s stack (length (t ∷ ts))) e) more xs → AreLaid s ((t ∷ ts) ++ e ∷ more) (x ∷ xs)
   first_laid s x xs t ts e more stack h k i g r = record {
@@ -233,7 +229,7 @@ module _ (text : List ℕ) (tokens : List Token) (stay : with_line_ends text ≡
   }
 
   some_laid : (s : Spot) (x : PrintedLine) (xs : List PrintedLine) (ts : List Token) (e : Token) (more : List Token) → 0 < length ts
-      → Every (λ (t : Token). is_line_end t.kind ≡ false) ts → is_line_end e.kind ≡ true → entered text s ≡ Some (widths x.deep)
+      → AllByRecursion (λ (t : Token). is_line_end t.kind ≡ false) ts → is_line_end e.kind ≡ true → entered text s ≡ Some (widths x.deep)
       → IsPrintable x → slice_range tokens s.index (s.index + length ts) ≡ ts → AreTexts text ts (signs_in (pieces x.row))
       → AreLaid (behind_end (behind_line s (widths x.deep) (length ts)) e) more xs → AreLaid s (ts ++ e ∷ more) (x ∷ xs)
   some_laid s x xs [] e more some h k i p q a r = absurd (omega arith)
@@ -301,7 +297,7 @@ module _ (text : List ℕ) (tokens : List Token) (stay : with_line_ends text ≡
     stack = refl;
   }
 
-  laid_all : (xs : List PrintedLine) (p : Place) (s : Spot) (d : ℕ) → Every IsPrintable xs → AreSteps d xs → IsAt p s d xs → AreLaid s (all_tokens p xs) xs
+  laid_all : (xs : List PrintedLine) (p : Place) (s : Spot) (d : ℕ) → AllByRecursion IsPrintable xs → AreSteps d xs → IsAt p s d xs → AreLaid s (all_tokens p xs) xs
   laid_all [] p s d h k i = record { lines = []; last = s; lays = layout.here; spelled = c.none; supported = tt; within = tt }
   laid_all (x ∷ xs) p s d h k i =
       let ts = line_tokens p x in
@@ -316,7 +312,7 @@ module _ (text : List ℕ) (tokens : List Token) (stay : with_line_ends text ≡
       texts
       (laid_all xs (next p x) (behind_end (behind_line s (widths x.deep) (length ts)) (end_token p x)) x.deep h.1 k.1 (next_at p s d x xs i h.0))
 
-pub lines_laid : (xs : List PrintedLine) (stay : with_line_ends (lines_text xs) ≡ lines_text xs) → Every IsPrintable xs → AreSteps 0 xs
+pub lines_laid : (xs : List PrintedLine) (stay : with_line_ends (lines_text xs) ≡ lines_text xs) → AllByRecursion IsPrintable xs → AreSteps 0 xs
     → AreLaid (lines_text xs) (all_tokens lexer.start xs) stay layout.start (all_tokens lexer.start xs) xs
 lines_laid xs stay h k =
     laid_all (lines_text xs) (all_tokens lexer.start xs) stay xs lexer.start layout.start 0 h k

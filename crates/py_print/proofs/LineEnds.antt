@@ -1,10 +1,10 @@
 -- Printed text has no carriage return, so that its line ends stay.
-use Rattle.std.proofs.Common.{◌≡◌, ℕ, zero, suc, ◌+◌, ◌*◌, ◌/◌, ◌%◌, ◌<◌, ◌≤◌, ◌^◌, pos, negsuc, List, [], ◌∷◌, ◌++◌, replicate, Bool, true, false, cond, ◌==◌, ◌&&◌, ◌||◌, not, nat_lt, nat_le, if◌then◌else◌, refl, sym, ap, ◌∙◌, subst, ◌⊎◌, inl, inr, ⊎_elim, arith}
-use Rattle.std.specs.List.{list_all, list_any, flat_map}
+use Rattle.std.proofs.Common.{◌≡◌, ℕ, zero, suc, ◌+◌, ◌*◌, ◌/◌, ◌%◌, ◌<◌, ◌≤◌, ◌^◌, pos, negsuc, List, [], ◌∷◌, ◌++◌, replicate, Bool, true, false, cond, ◌==◌, ◌&&◌, ◌||◌, not, nat_lt, if◌then◌else◌, refl, sym, ap, ◌∙◌, ◌⊎◌, ⊎_elim, arith}
+use Rattle.std.specs.List.{list_all, list_any, flat_map, AllByRecursion}
 use Rattle.std.specs.Char.{digit_char}
 use Rattle.std.specs.Fmt.{decimal}
 use Rattle.std.proofs.lemmas.List.Folds.{list_all-append}
-use Rattle.std.proofs.lemmas.Bool.{cases_Bool, and_parts, and_from, cond-true, cond-false, false_from_ne_true, ne_eqb, eqb-true, eqb-false, ltb-true}
+use Rattle.std.proofs.lemmas.Bool.{cases_Bool, and_parts, and_from, cond-true, cond-false, ne_eqb, eqb-true}
 use Rattle.unicode_ident.specs.Ident.{is_xid_continue}
 use Rattle.py_scalars.specs.TextForm.{shown, shown_other, quote_for, repr_of}
 use Rattle.py_grammar.specs.declared.mark.Mark.{Mark}
@@ -12,9 +12,9 @@ use Rattle.py_grammar.specs.declared.mark.Mark.TheVariants as m
 use Rattle.py_grammar.specs.declared.sign.Sign.{Sign}
 use Rattle.py_grammar.specs.declared.sign.Sign.TheVariants.{Name, Number, Text, Mark as The, Other}
 use Rattle.py_block.specs.Parsed.{line_ends_from, with_line_ends}
-use Rattle.py_print.specs.Pieces.{Piece, sign, space, signs_in, sign_text, mark_text, piece_text, text_of}
+use Rattle.py_print.specs.Pieces.{Piece, sign, space, signs_in, sign_text, mark_text, text_of}
 use Rattle.py_print.specs.Printed.{PrintedLine, pieces, line_text, lines_text}
-use Rattle.py_print.specs.Spelled.{Every, IsOwnName, IsWritten}
+use Rattle.py_print.specs.Spelled.{IsWritten}
 use Rattle.py_print.proofs.WordFronts.{punctuation_ends}
 use Rattle.py_print.proofs.NumberFronts.{is_figure, decimal_begins}
 use Rattle.py_print.proofs.SignFronts.{own_word, below_wide}
@@ -104,7 +104,7 @@ sign_kept (Text x) h = repr_kept x
 sign_kept (The k) h = mark_kept k
 sign_kept Other h = absurd h
 
-pieces_kept : (ps : List Piece) → Every IsWritten (signs_in ps) → IsKept (text_of ps)
+pieces_kept : (ps : List Piece) → AllByRecursion IsWritten (signs_in ps) → IsKept (text_of ps)
 pieces_kept [] w = refl
 pieces_kept (space ∷ ps) w = pieces_kept ps w
 pieces_kept (sign s ∷ ps) w = kept_append (sign_text s) (text_of ps) (sign_kept s w.0) (pieces_kept ps w.1)
@@ -113,7 +113,7 @@ spaces_kept : (n : ℕ) → IsKept (replicate n 32)
 spaces_kept zero = refl
 spaces_kept (suc n) = spaces_kept n
 
-lines_kept : (xs : List PrintedLine) → Every (λ x. Every IsWritten (signs_in (pieces x.row))) xs → IsKept (lines_text xs)
+lines_kept : (xs : List PrintedLine) → AllByRecursion (λ x. AllByRecursion IsWritten (signs_in (pieces x.row))) xs → IsKept (lines_text xs)
 lines_kept [] w = refl
 lines_kept (x ∷ xs) w =
     kept_append (line_text x) (lines_text xs)
@@ -132,5 +132,5 @@ ends_kept (c ∷ text) h =
     is_false true h = sym h
     is_false false h = refl
 
-pub ends_stay : (xs : List PrintedLine) → Every (λ x. Every IsWritten (signs_in (pieces x.row))) xs → with_line_ends (lines_text xs) ≡ lines_text xs
+pub ends_stay : (xs : List PrintedLine) → AllByRecursion (λ x. AllByRecursion IsWritten (signs_in (pieces x.row))) xs → with_line_ends (lines_text xs) ≡ lines_text xs
 ends_stay xs w = ends_kept (lines_text xs) (lines_kept xs w)

@@ -1,25 +1,24 @@
 -- What is printed of a simple statement or a header spells it.
-use Rattle.std.proofs.Common.{◌≡◌, ℕ, ◌<◌, List, [], ◌∷◌, ◌++◌, map, length, Option, Some, None, refl, sym, ap, ◌∙◌, subst, arith, append_assoc}
+use Rattle.std.proofs.Common.{◌≡◌, ℕ, ◌<◌, List, [], ◌∷◌, ◌++◌, map, length, Option, Some, None, sym, ap, ◌∙◌, subst, arith, append_assoc}
 use Rattle.std.proofs.lemmas.List.{append-nil}
 use Rattle.py_ast.specs.Tree as t
 use Rattle.py_ast.specs.Tree.{Tree, Trees, none, more}
 use Rattle.py_ast.specs.Statement as s
 use Rattle.py_ast.specs.Statement.{Statement}
-use Rattle.py_ast.specs.Lawful.{IsForm, AreForms, IsPlace, IsTarget, AreTargets, IsWhole, AreWhole, IsWholeOrNone, Place, IsStatement}
+use Rattle.py_ast.specs.Lawful.{IsForm, AreForms, IsPlace, IsTarget, AreTargets, IsWhole, AreWhole, Place, IsStatement}
 use Rattle.py_ast.specs.declared.expr.BinaryOp.{BinaryOp}
 use Rattle.py_ast.specs.declared.expr.BinaryOp.TheVariants as b
 use Rattle.py_grammar.specs.Grammar as g
-use Rattle.py_grammar.specs.Grammar.{Expr, push}
+use Rattle.py_grammar.specs.Grammar.{push}
 use Rattle.py_grammar.specs.Line as l
 use Rattle.py_grammar.specs.Line.{Target, Members, Targets, Lefts, Names, Augments, Simple, Header, Heads}
-use Rattle.py_grammar.specs.declared.mark.Mark.{Mark}
 use Rattle.py_grammar.specs.declared.mark.Mark.TheVariants as m
 use Rattle.py_grammar.specs.declared.sign.Sign.{Sign}
 use Rattle.py_grammar.specs.declared.sign.Sign.TheVariants.{Name, Mark as The}
 use Rattle.py_grammar.proofs.LawfulBlocks.{IsHeader}
-use Rattle.py_print.specs.Pieces.{Piece, space, signs_in, mark, name, in_squares, in_parens, between, after_commas, commas}
+use Rattle.py_print.specs.Pieces.{Piece, space, signs_in, mark, name, in_squares, in_parens, after_commas, commas}
 use Rattle.py_print.specs.Expressions.{at, before_dot, params_of, printed, members}
-use Rattle.py_print.specs.Lines.{lefts, augmented, names, name_alone, simple, as_name, header}
+use Rattle.py_print.specs.Lines.{lefts, augmented, names, name_alone, simple, header}
 use Rattle.py_print.proofs.SignsIn.{signs_append, signs_between, signs_behind}
 use Rattle.py_print.proofs.Levels.{at_spelled, before_dot_spelled}
 use Rattle.py_print.proofs.Lists.{appended, appended_one, signs_on, params_spelled}

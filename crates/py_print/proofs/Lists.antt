@@ -11,8 +11,8 @@ use Rattle.py_grammar.specs.Grammar.{Atom, Sum, Comparison, Expr, Exprs, Spells,
 use Rattle.py_grammar.specs.declared.mark.Mark.TheVariants as m
 use Rattle.py_grammar.specs.declared.sign.Sign.{Sign}
 use Rattle.py_grammar.specs.declared.sign.Sign.TheVariants.{Name, Mark as The}
-use Rattle.py_print.specs.Pieces.{Piece, space, signs_in, mark, name, in_squares, in_curly, in_parens, after_commas, commas, one_comma, values_on, keys_on, pairs, params}
-use Rattle.py_print.specs.Expressions.{level_of, at, comparison, compared_on, compared, params_of, printed, members, operands}
+use Rattle.py_print.specs.Pieces.{Piece, space, signs_in, mark, after_commas, commas, values_on, keys_on, pairs, params}
+use Rattle.py_print.specs.Expressions.{at, comparison, compared_on, compared, params_of, printed, members, operands}
 use Rattle.py_print.proofs.SignsIn.{signs_append, signs_behind}
 use Rattle.py_print.proofs.Levels.{parens_spelled}
 

@@ -1,28 +1,26 @@
 -- A number in decimal is cut where it ends, and reads as the number.
-use Rattle.std.proofs.Common.{◌≡◌, ℕ, zero, suc, ◌+◌, ◌*◌, ◌/◌, ◌%◌, ◌^◌, ◌<◌, ◌≤◌, pos, List, [], ◌∷◌, ◌++◌, length, take, drop, Bool, true, false, ◌==◌, ◌&&◌, ◌||◌, not, nat_lt, nat_le, Option, Some, None, refl, sym, ap, ◌∙◌, subst, ◌⊎◌, inl, inr, ⊎_elim, arith, lit<}
+use Rattle.std.proofs.Common.{◌≡◌, ℕ, ◌+◌, ◌*◌, ◌/◌, ◌%◌, ◌^◌, ◌<◌, ◌≤◌, pos, List, [], ◌∷◌, ◌++◌, length, take, drop, Bool, true, false, ◌==◌, ◌&&◌, ◌||◌, not, nat_lt, nat_le, Some, None, refl, sym, ap, ◌∙◌, ◌⊎◌, ⊎_elim, arith, lit<}
 use Rattle.std.specs.List.{list_all, prefix_len}
 use Rattle.std.specs.Prelude.{codes, is_some, filter, if◌then◌else◌}
 use Rattle.std.specs.Fmt.{decimal}
-use Rattle.std.specs.Char.{is_ascii_alphabetic, is_ascii_alphanumeric}
 use Rattle.std.specs.Str.Parse.{digits_value}
 use Rattle.std.proofs.lemmas.Fmt.{decimal_is_IsNumeral_wide, decimal_by_steps_wide}
 use Rattle.std.proofs.Math.Seq.{take-append_seam, drop-append_seam}
-use Rattle.std.proofs.lemmas.Bool.{cases_Bool, and_parts, and_from, cond-true, cond-false, ltb-true, lt-ltb, leb-true, le-leb, false_from_ne_true, agree_below_at, ne_eqb, eqb-true}
+use Rattle.std.proofs.lemmas.Bool.{cases_Bool, and_parts, and_from, cond-true, cond-false, lt-ltb, leb-true, le-leb, false_from_ne_true, agree_below_at, eqb-true}
 use Rattle.std.proofs.lemmas.Nat.{div-add-mod', mod_below}
 use Rattle.unicode_ident.specs.Ident.{is_xid_continue}
 use Rattle.py_scalars.specs.NumberForm.{is_digit, begins_with_digit, is_spaced, spaced_value, base_of, base_behind, based, is_zeros, decimal_form, number_of}
 use Rattle.py_lexer.specs.declared.token.TokenKind.TheVariants.{Number as NumberToken, Unsupported}
 use Rattle.py_lexer.specs.Form.{is_name_start, is_digits, is_quote, is_number}
-use Rattle.py_lexer.specs.Scan.{has_digit, digits_len, begins_with_one, one_len, if_more, exponent_len, tail_len, fraction_len, behind_digits_len, real_len, word_front, number_front, literal_front, other_front}
+use Rattle.py_lexer.specs.Scan.{has_digit, digits_len, begins_with_one, one_len, if_more, tail_len, fraction_len, behind_digits_len, real_len, word_front, number_front, literal_front, other_front}
 use Rattle.py_lexer.proofs.Lists.{run_exact}
 use Rattle.py_lexer.proofs.Numbers.{digits_exact}
 use Rattle.py_lexer.proofs.Words.{digit_continues}
-use Rattle.py_grammar.specs.declared.sign.Sign.{Sign}
 use Rattle.py_grammar.specs.declared.sign.Sign.TheVariants.{Number}
 use Rattle.py_signs.specs.Signs.{number_sign}
 use Rattle.py_block.specs.Lexing.{front_of}
-use Rattle.py_print.proofs.Classes.{digits, word, ends_word, may, goes}
-use Rattle.py_print.proofs.WordFronts.{is_low, is_low_other, low_continues, low_word, no_start, not_false, not_listed, ends_parts, stops_word}
+use Rattle.py_print.proofs.Classes.{digits, word, ends_word, goes}
+use Rattle.py_print.proofs.WordFronts.{is_low, is_low_other, low_continues, no_start, not_false, not_listed, ends_parts, stops_word}
 use Rattle.py_print.proofs.MarkFronts.{IsCut}
 
 -- ---- figures

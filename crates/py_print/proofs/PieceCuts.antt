@@ -1,24 +1,21 @@
 -- The text of pieces is cut into the tokens of their signs.
-use Rattle.std.proofs.Common.{◌≡◌, ℕ, zero, suc, ◌+◌, ◌-◌, ◌<◌, ◌≤◌, ◌^◌, pos, negsuc, List, [], ◌∷◌, ◌++◌, length, take, drop, map, slice_range, Bool, true, false, ◌&&◌, ◌||◌, not, nat_lt, if◌then◌else◌, Option, Some, None, refl, sym, ap, ◌∙◌, subst, arith, append_assoc, length-append}
-use Rattle.std.specs.List.{list_any, list_all, prefix_len}
-use Rattle.std.specs.Fmt.{decimal}
+use Rattle.std.proofs.Common.{◌≡◌, ℕ, zero, suc, ◌+◌, ◌-◌, ◌<◌, ◌≤◌, ◌^◌, pos, negsuc, List, [], ◌∷◌, ◌++◌, length, take, drop, slice_range, Bool, true, false, ◌&&◌, ◌||◌, not, nat_lt, if◌then◌else◌, Option, Some, None, refl, sym, ap, ◌∙◌, subst, arith, append_assoc, length-append}
+use Rattle.std.specs.List.{AllByRecursion}
 use Rattle.std.proofs.Math.Seq.{take-append_seam, drop-append_seam}
-use Rattle.std.proofs.lemmas.Bool.{and_parts, cond-true, ltb-true, lt-ltb, le-ltb}
-use Rattle.py_scalars.specs.NumberForm.{number_of}
+use Rattle.std.proofs.lemmas.Bool.{ltb-true, lt-ltb, le-ltb}
 use Rattle.py_lexer.specs.declared.token.TokenKind.{TokenKind}
-use Rattle.py_lexer.specs.declared.token.TokenKind.TheVariants.{Word, Number as NumberToken, Text as TextToken, Op, LineEnd, Unsupported}
 use Rattle.py_lexer.specs.declared.token.Token.{Token}
-use Rattle.py_lexer.specs.Cut.{Place, Cuts, IsToken, IsFront, blank_len, behind, behind_token, token_at, open_after}
+use Rattle.py_lexer.specs.Cut.{Place, Cuts, IsToken, IsFront, behind, behind_token, token_at, open_after}
 use Rattle.py_lexer.specs.Cut as lexer
 use Rattle.py_layout.specs.Layout.{is_line_end}
 use Rattle.py_grammar.specs.declared.sign.Sign.{Sign}
 use Rattle.py_grammar.specs.declared.sign.Sign.TheVariants.{Name, Number, Text, Mark as The, Other}
-use Rattle.py_signs.specs.Signs.{sign_of, text_of_token, sign_of_token, signs_of}
+use Rattle.py_signs.specs.Signs.{sign_of, text_of_token, signs_of}
 use Rattle.py_signs.specs.Limits.{is_unsupported, has_unsupported, is_crowded, is_over, is_wide, has_wide}
 use Rattle.py_block.specs.Lexing.{front_of}
 use Rattle.py_block.proofs.LexingLaws.{is_front}
-use Rattle.py_print.specs.Pieces.{Piece, sign, space, signs_in, sign_text, piece_text, text_of}
-use Rattle.py_print.specs.Spelled.{Every, IsWritten}
+use Rattle.py_print.specs.Pieces.{Piece, sign, space, signs_in, sign_text, text_of}
+use Rattle.py_print.specs.Spelled.{IsWritten}
 use Rattle.py_print.proofs.Classes.{Class, free, word, goes, class_of, kind_of_sign, mark_class, mark_kind}
 use Rattle.py_print.proofs.NumberFronts.{decimal_reads}
 use Rattle.py_print.proofs.Runs.{fits, Turn, up, down, level, turn_of, may_turn, turned, less, run}
@@ -63,7 +60,7 @@ count_in n (Some r) = r.1
 
 -- ---- what may follow
 
-goes_on : (most : ℕ) (k : Class) (n : ℕ) (ps : List Piece) (e : Class) (j : ℕ) (rest : List ℕ) → run most k n ps ≡ Some (e, j) → Every IsWritten (signs_in ps)
+goes_on : (most : ℕ) (k : Class) (n : ℕ) (ps : List Piece) (e : Class) (j : ℕ) (rest : List ℕ) → run most k n ps ≡ Some (e, j) → AllByRecursion IsWritten (signs_in ps)
     → goes e rest ≡ true → goes k (text_of ps ++ rest) ≡ true
 goes_on most k n [] e j rest h w g = ap (λ z. goes z rest) (ap (class_in k) h) ∙ g
 goes_on most k n (space ∷ ps) e j rest h w g = space_goes k (text_of ps ++ rest)
@@ -90,7 +87,7 @@ token_cut {q} {ts} {end} p w r k e c =
 pub space_cut : {q : Place} {ts : List Token} {end : List ℕ} (p : Place) (r : List ℕ) → Cuts (behind p (32 ∷ [])) r ts q end → Cuts p (32 ∷ r) ts q end
 space_cut p r c = lexer.blank (omega arith) c
 
-pub pieces_cut : (most : ℕ) (k : Class) (n : ℕ) (ps : List Piece) (e : Class) (j : ℕ) (rest : List ℕ) → run most k n ps ≡ Some (e, j) → Every IsWritten (signs_in ps)
+pub pieces_cut : (most : ℕ) (k : Class) (n : ℕ) (ps : List Piece) (e : Class) (j : ℕ) (rest : List ℕ) → run most k n ps ≡ Some (e, j) → AllByRecursion IsWritten (signs_in ps)
     → goes e rest ≡ true → (p : Place) → Cuts p (text_of ps ++ rest) (tokens_at p ps) (place_after p ps) rest
 pieces_cut most k n [] e j rest h w g p = lexer.here
 pieces_cut most k n (space ∷ ps) e j rest h w g p =
@@ -102,7 +99,7 @@ pieces_cut most k n (sign s ∷ ps) e j rest h w g p =
     ((sign_is_cut s w.0).front p.nested (text_of ps ++ rest) (goes_on most (class_of s) (turned n (turn_of s)) ps e j rest r.rest w.1 g))
     (pieces_cut most (class_of s) (turned n (turn_of s)) ps e j rest r.rest w.1 g (behind_token p (kind_of_sign s) (sign_text s))))
 
-pub nested_after : (most : ℕ) (k : Class) (n : ℕ) (ps : List Piece) (e : Class) (j : ℕ) → run most k n ps ≡ Some (e, j) → Every IsWritten (signs_in ps)
+pub nested_after : (most : ℕ) (k : Class) (n : ℕ) (ps : List Piece) (e : Class) (j : ℕ) → run most k n ps ≡ Some (e, j) → AllByRecursion IsWritten (signs_in ps)
     → (p : Place) → p.nested ≡ n → (place_after p ps).nested ≡ j
 nested_after most k n [] e j h w p b = b ∙ ap (count_in n) h
 nested_after most k n (space ∷ ps) e j h w p b = nested_after most free n ps e j h w (behind p (32 ∷ [])) b
@@ -153,7 +150,7 @@ texts_of whole before p (sign s ∷ ps) rest e a =
           (let l = length-append before w in omega arith),
     )
 
-pub signs_are : (text : List ℕ) (ts : List Token) (ss : List Sign) → AreTexts text ts ss → Every IsWritten ss → signs_of text ts ≡ ss
+pub signs_are : (text : List ℕ) (ts : List Token) (ss : List Sign) → AreTexts text ts ss → AllByRecursion IsWritten ss → signs_of text ts ≡ ss
 signs_are text [] [] h w = refl
 signs_are text [] (s ∷ ss) h w = absurd h
 signs_are text (t ∷ ts) [] h w = absurd h
@@ -192,7 +189,7 @@ no_end (Text x) = refl
 no_end (The k) = mark_no_end (mark_class k)
 no_end Other = refl
 
-pub no_ends : (text : List ℕ) (ts : List Token) (ss : List Sign) → AreTexts text ts ss → Every (λ (t : Token). is_line_end t.kind ≡ false) ts
+pub no_ends : (text : List ℕ) (ts : List Token) (ss : List Sign) → AreTexts text ts ss → AllByRecursion (λ (t : Token). is_line_end t.kind ≡ false) ts
 no_ends text [] [] h = tt
 no_ends text [] (s ∷ ss) h = absurd h
 no_ends text (t ∷ ts) [] h = absurd h
@@ -212,7 +209,7 @@ narrow (Text x) h = refl
 narrow (The k) h = mark_narrow (mark_class k) (sign_text (The k))
 narrow Other h = absurd h
 
-pub all_narrow : (text : List ℕ) (ts : List Token) (ss : List Sign) → AreTexts text ts ss → Every IsWritten ss → has_wide text ts ≡ false
+pub all_narrow : (text : List ℕ) (ts : List Token) (ss : List Sign) → AreTexts text ts ss → AllByRecursion IsWritten ss → has_wide text ts ≡ false
 all_narrow text [] [] h w = refl
 all_narrow text [] (s ∷ ss) h w = absurd h
 all_narrow text (t ∷ ts) [] h w = absurd h
@@ -232,7 +229,7 @@ turned_small most n down l h = let s = less_small n in omega arith
 turned_small most n level l h = l
 
 pub not_crowded : (text : List ℕ) (k : Class) (n : ℕ) (ps : List Piece) (e : Class) (j : ℕ) (ts : List Token) → run 200 k n ps ≡ Some (e, j) → n ≤ 200
-    → AreTexts text ts (signs_in ps) → Every IsWritten (signs_in ps) → is_crowded text n ts ≡ false
+    → AreTexts text ts (signs_in ps) → AllByRecursion IsWritten (signs_in ps) → is_crowded text n ts ≡ false
 not_crowded text k n [] e j [] h l a w = refl
 not_crowded text k n [] e j (t ∷ ts) h l a w = absurd a
 not_crowded text k n (space ∷ ps) e j ts h l a w = not_crowded text free n ps e j ts h l a w
@@ -252,7 +249,7 @@ pub record HasFront (nested : ℕ) (text : List ℕ) : Type 0 where
   pub token : TokenKind × ℕ
   pub front : front_of nested text ≡ Some token
 
-pub head_front : (most : ℕ) (k : Class) (n : ℕ) (ps : List Piece) (e : Class) (j : ℕ) (rest : List ℕ) → run most k n ps ≡ Some (e, j) → Every IsWritten (signs_in ps)
+pub head_front : (most : ℕ) (k : Class) (n : ℕ) (ps : List Piece) (e : Class) (j : ℕ) (rest : List ℕ) → run most k n ps ≡ Some (e, j) → AllByRecursion IsWritten (signs_in ps)
     → is_headed ps ≡ true → goes e rest ≡ true → (nested : ℕ) → HasFront nested (text_of ps ++ rest)
 head_front most k n [] e j rest h w f g nested = cc
 head_front most k n (space ∷ ps) e j rest h w f g nested = cc

@@ -4,7 +4,7 @@ use Rattle.std.proofs.lemmas.List.{drop_more}
 use Rattle.py_ast.specs.Tree.{Tree}
 use Rattle.py_ast.specs.View.{view, views}
 use Rattle.py_ast.specs.Statement as x
-use Rattle.py_ast.specs.Statement.{Statement, Block, empty, then, branch, handler, view_stmt, view_stmt_step, view_branch_step, view_handler_step, block_of, branches_of, handlers_of}
+use Rattle.py_ast.specs.Statement.{Statement, Block, empty, then, branch, handler, view_stmt, view_stmt_step, view_branch_step, view_handler_step, branches_of, handlers_of, view_block}
 use Rattle.py_ast.specs.declared.expr.BinaryOp.{BinaryOp}
 use Rattle.py_ast.specs.declared.expr.Expr.{Expr}
 use Rattle.py_ast.specs.declared.stmt.Stmt.{Stmt}
@@ -20,7 +20,7 @@ use Rattle.py_grammar.specs.declared.mark.Mark.{Mark}
 use Rattle.py_grammar.specs.declared.mark.Mark.TheVariants as m
 use Rattle.py_print.specs.Pieces.{space, mark, name}
 use Rattle.py_print.specs.Expressions.{printed, members}
-use Rattle.py_print.specs.Forms.{message_of, word_and, test_word, view_block, view_branch, view_handler}
+use Rattle.py_print.specs.Forms.{message_of, word_and, test_word, view_branch, view_handler}
 use Rattle.py_print.specs.Lines as lines
 use Rattle.py_print.specs.Printed.{PrintedLine, head_at, if_there, lines_of, statement, tests, catches}
 use Rattle.py_print.specs.Writing.{with_pieces, with_lines, with_header, with_otherwise}

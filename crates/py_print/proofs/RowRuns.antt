@@ -1,26 +1,26 @@
 -- The pieces of each printed line may stand side by side, and at most 200 brackets are open.
-use Rattle.std.proofs.Common.{◌≡◌, ℕ, zero, suc, ◌+◌, ◌*◌, ◌≤◌, ◌<◌, max, List, [], ◌∷◌, ◌++◌, map, Bool, true, false, Option, Some, None, refl, sym, ap, ◌∙◌, subst, arith, append_assoc}
+use Rattle.std.proofs.Common.{◌≡◌, ℕ, ◌+◌, ◌*◌, ◌≤◌, ◌<◌, List, [], ◌∷◌, ◌++◌, map, true, Option, Some, None, refl, sym, ◌∙◌, subst, arith, append_assoc}
 use Rattle.py_ast.specs.Tree as t
-use Rattle.py_ast.specs.Tree.{Tree, Trees, none, more, depth, deepest}
+use Rattle.py_ast.specs.Tree.{Tree, Trees, none, more, deepest}
 use Rattle.py_ast.specs.Statement as s
 use Rattle.py_ast.specs.Statement.{Statement}
-use Rattle.py_ast.specs.Lawful.{IsForm, AreForms, IsWhole, AreWhole, Place, IsStatement}
+use Rattle.py_ast.specs.Lawful.{AreForms, IsWhole, AreWhole, Place, IsStatement}
 use Rattle.py_ast.specs.declared.expr.BinaryOp.{BinaryOp}
 use Rattle.py_ast.specs.declared.expr.BinaryOp.TheVariants as b
 use Rattle.py_grammar.specs.Line as l
 use Rattle.py_grammar.specs.Line.{Header, line_depth}
 use Rattle.py_grammar.specs.declared.mark.Mark.{Mark}
 use Rattle.py_grammar.specs.declared.mark.Mark.TheVariants as m
-use Rattle.py_grammar.specs.declared.sign.Sign.TheVariants.{Name, Mark as The}
+use Rattle.py_grammar.specs.declared.sign.Sign.TheVariants.{Mark as The}
 use Rattle.py_grammar.proofs.LawfulBlocks.{IsHeader}
-use Rattle.py_print.specs.Pieces.{Piece, sign, space, mark, name, in_parens, between, after_commas, commas}
+use Rattle.py_print.specs.Pieces.{Piece, space, mark, name, between}
 use Rattle.py_print.specs.Expressions.{params_of, printed, members}
 use Rattle.py_print.specs.Lines as lines
 use Rattle.py_print.specs.Lines.{lefts, augmented, names, name_alone, as_name}
 use Rattle.py_print.specs.Printed.{Row, simple, header, pieces, line}
 use Rattle.py_print.proofs.Classes.{Class, free, unary, word, class_of}
-use Rattle.py_print.proofs.Runs.{level, mark_turn, run, is_end, step, level_step, run_append, fits_end}
-use Rattle.py_print.proofs.Runs.{IsRun, IsTidy, tidy_run, weaker, run_weaker, nothing_run, run_on, tidy_on, sign_run, sign_tidy, space_run, between_run, between_tidy, parens_behind}
+use Rattle.py_print.proofs.Runs.{level, mark_turn, run, is_end, step, run_append, fits_end}
+use Rattle.py_print.proofs.Runs.{IsRun, IsTidy, tidy_run, run_weaker, nothing_run, tidy_on, sign_run, space_run, between_run, between_tidy, parens_behind}
 use Rattle.py_print.proofs.TidyForms.{EachTidy, AllTidy, name_tidy, all_commas_run, params_run, form_tidy, each_tidy}
 use Rattle.py_print.proofs.LineLaws.{IsPlain}
 use Rattle.py_print.proofs.Rows.{IsRow}

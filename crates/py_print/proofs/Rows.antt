@@ -1,25 +1,26 @@
 -- The lines of a lawful block are lawful, and what stands on each spells it.
 use Rattle.std.proofs.Common.{◌≡◌, ℕ, ◌+◌, ◌≤◌, List, [], ◌∷◌, ◌++◌, Option, Some, None, refl, sym, subst}
+use Rattle.std.specs.List.{AllByRecursion}
 use Rattle.py_ast.specs.Tree.{Tree}
 use Rattle.py_ast.specs.Statement as s
 use Rattle.py_ast.specs.Statement.{Statement, Block, empty, then, Branches, no_branches, branch, Handlers, no_handlers, handler}
-use Rattle.py_ast.specs.Lawful.{IsWhole, Place, inner, loop_body, def_body, class_body, IsSome, IsClause, IsStatement, IsBlock, AreBranches, AreHandlers}
+use Rattle.py_ast.specs.Lawful.{Place, inner, loop_body, def_body, class_body, IsClause, IsStatement, IsBlock, AreBranches, AreHandlers}
 use Rattle.py_grammar.specs.Grammar as g
 use Rattle.py_grammar.specs.Line as l
 use Rattle.py_grammar.specs.Line.{Header}
 use Rattle.py_grammar.specs.declared.mark.Mark.TheVariants as m
 use Rattle.py_grammar.proofs.LawfulBlocks.{IsHeader}
 use Rattle.py_print.specs.Lines as lines
-use Rattle.py_print.specs.Printed.{Row, simple, header, PrintedLine, simple_at, head_at, if_there, lines_of, statement, tests, catches}
-use Rattle.py_print.specs.Spelled.{Every, IsSpelled, AreSpelled}
+use Rattle.py_print.specs.Printed.{Row, simple, header, PrintedLine, head_at, if_there, lines_of, statement, tests, catches}
+use Rattle.py_print.specs.Spelled.{IsSpelled, AreSpelled}
 use Rattle.py_print.proofs.SignsIn.{signs_behind}
 use Rattle.py_print.proofs.LineLaws.{IsPlain, simple_spelled, header_spelled}
 
-pub every_append : {X : Type 0} (P : X → Type 0) (xs ys : List X) → Every P xs → Every P ys → Every P (xs ++ ys)
+pub every_append : {X : Type 0} (P : X → Type 0) (xs ys : List X) → AllByRecursion P xs → AllByRecursion P ys → AllByRecursion P (xs ++ ys)
 every_append P [] ys h k = k
 every_append P (x ∷ xs) ys h k = (h.0, every_append P xs ys h.1 k)
 
-pub every_weaker : {X : Type 0} (P Q : X → Type 0) (xs : List X) → ((x : X) → P x → Q x) → Every P xs → Every Q xs
+pub every_weaker : {X : Type 0} (P Q : X → Type 0) (xs : List X) → ((x : X) → P x → Q x) → AllByRecursion P xs → AllByRecursion Q xs
 every_weaker P Q [] f h = tt
 every_weaker P Q (x ∷ xs) f h = (f x h.0, every_weaker P Q xs f h.1)
 
@@ -32,7 +33,7 @@ abbrev pub IsLawfulLine : PrintedLine → Type 0
 IsLawfulLine x = IsRow x.row × (x.deep ≤ 60)
 
 abbrev pub AreLawful : List PrintedLine → Type 0
-AreLawful xs = Every IsLawfulLine xs
+AreLawful xs = AllByRecursion IsLawfulLine xs
 
 clause_header : (class : Option Tree) (x : Option (List ℕ)) (later : Handlers) → IsClause class x later → IsHeader (l.except class x)
 unfolding IsHeader

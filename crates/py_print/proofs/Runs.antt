@@ -1,12 +1,12 @@
 -- Pieces that stand side by side: each may follow the one before it, and so many brackets are open at most.
-use Rattle.std.proofs.Common.{◌≡◌, ℕ, zero, suc, ◌+◌, ◌*◌, ◌-◌, ◌≤◌, ◌<◌, max, List, [], ◌∷◌, ◌++◌, length, map, Bool, true, false, ◌&&◌, ◌||◌, not, nat_lt, nat_le, if◌then◌else◌, Option, Some, None, refl, sym, ap, ◌∙◌, subst, arith, append_assoc}
+use Rattle.std.proofs.Common.{◌≡◌, ℕ, zero, suc, ◌+◌, ◌*◌, ◌-◌, ◌≤◌, ◌<◌, List, [], ◌∷◌, ◌++◌, Bool, true, false, ◌&&◌, ◌||◌, nat_lt, if◌then◌else◌, Option, Some, None, refl, ap, ◌∙◌, arith}
 use Rattle.std.proofs.lemmas.Bool.{and_from, lt-ltb}
 use Rattle.py_grammar.specs.Reading.{mark_begins}
 use Rattle.py_grammar.specs.declared.mark.Mark.{Mark}
 use Rattle.py_grammar.specs.declared.mark.Mark.TheVariants as m
 use Rattle.py_grammar.specs.declared.sign.Sign.{Sign}
 use Rattle.py_grammar.specs.declared.sign.Sign.TheVariants.{Name, Number, Text, Mark as The, Other}
-use Rattle.py_print.specs.Pieces.{Piece, sign, space, mark, name, in_parens, in_squares, in_curly, between, after_space}
+use Rattle.py_print.specs.Pieces.{Piece, sign, space, mark, in_parens, in_squares, in_curly, between}
 use Rattle.py_print.proofs.Classes.{Class, free, unary, point, word, digits, gap, class_of, mark_class}
 
 -- ---- what may follow

@@ -1,16 +1,15 @@
 -- The sign of a token that a text can hold is cut where it ends, and what its text begins with may stand behind what it fits.
-use Rattle.std.proofs.Common.{◌≡◌, ℕ, zero, suc, ◌+◌, ◌-◌, ◌^◌, ◌<◌, ◌≤◌, pos, negsuc, List, [], ◌∷◌, ◌++◌, length, Bool, true, false, cond, ◌==◌, ◌&&◌, ◌||◌, not, nat_lt, Option, Some, None, refl, sym, ap, ◌∙◌, subst, ◌⊎◌, inl, inr, ⊎_elim, arith, lit<, lit≤}
+use Rattle.std.proofs.Common.{◌≡◌, ℕ, zero, suc, ◌+◌, ◌-◌, ◌^◌, ◌<◌, ◌≤◌, pos, negsuc, List, [], ◌∷◌, ◌++◌, Bool, true, false, cond, ◌==◌, ◌&&◌, ◌||◌, not, nat_lt, Some, None, refl, sym, ap, ◌∙◌, subst, ◌⊎◌, ⊎_elim, arith, lit<, lit≤}
 use Rattle.std.specs.List.{list_all, list_any}
 use Rattle.std.specs.Prelude.{if◌then◌else◌}
 use Rattle.std.specs.Char.{digit_value}
-use Rattle.std.specs.Fmt.{decimal, signed_decimal}
-use Rattle.std.proofs.lemmas.Bool.{cases_Bool, cases_lt, and_parts, and_from, or_cases, cond-true, cond-false, false_from_ne_true, ne_eqb, eqb-true, ltb-true, le-ltb, agree_below_at}
-use Rattle.unicode_ident.specs.Ident.{is_xid_start, is_xid_continue}
+use Rattle.std.specs.Fmt.{decimal}
+use Rattle.std.proofs.lemmas.Bool.{cases_lt, and_parts, and_from, cond-false, false_from_ne_true, ne_eqb, ltb-true, le-ltb, agree_below_at}
+use Rattle.unicode_ident.specs.Ident.{is_xid_continue}
 use Rattle.py_scalars.specs.NumberForm.{is_digit}
-use Rattle.py_scalars.specs.TextForm.{shown, quote_for, repr_of}
-use Rattle.py_lexer.specs.Form.{is_name_start, is_name, is_prefixed, is_unsupported_word, is_number, is_unsupported_number, is_literal, is_operator, is_unsupported_sign, is_quote, one_of, word_kind, number_kind, literal_kind, other_kind, kind_of}
+use Rattle.py_scalars.specs.TextForm.{repr_of}
+use Rattle.py_lexer.specs.Form.{is_name_start, is_name, is_prefixed, is_unsupported_word, is_number, is_unsupported_number, is_literal, is_operator, is_unsupported_sign, is_quote, one_of, word_kind, number_kind, literal_kind, other_kind}
 use Rattle.py_lexer.specs.Cut.{open_after}
-use Rattle.py_lexer.specs.declared.token.TokenKind.{TokenKind}
 use Rattle.py_lexer.specs.declared.token.TokenKind.TheVariants.{Word, Number as NumberToken, Text as TextToken, Op, LineEnd, Unsupported}
 use Rattle.py_lexer.proofs.Words.{name_continues}
 use Rattle.py_grammar.specs.Reading.{mark_begins}
@@ -22,11 +21,11 @@ use Rattle.py_signs.specs.Signs.{sign_of}
 use Rattle.py_print.specs.Pieces.{sign_text, mark_text}
 use Rattle.py_print.specs.Spelled.{IsOwnName, IsWritten}
 use Rattle.py_print.proofs.Classes.{Class, free, unary, point, word, digits, gap, ends_word, may, goes, class_of, kind_of_sign, mark_class, mark_kind}
-use Rattle.py_print.proofs.WordFronts.{is_low, is_low_other, no_start, low_continues, low_word, word_is_cut, is_punctuation, punctuation_ends}
+use Rattle.py_print.proofs.WordFronts.{is_low_other, no_start, word_is_cut, is_punctuation, punctuation_ends}
 use Rattle.py_print.proofs.MarkFronts.{IsCut, mark_is_cut}
-use Rattle.py_print.proofs.NumberFronts.{is_figure, IsFigure, figure, number_is_cut, decimal_begins}
+use Rattle.py_print.proofs.NumberFronts.{is_figure, figure, number_is_cut, decimal_begins}
 use Rattle.py_print.proofs.TextFronts.{text_is_cut}
-use Rattle.py_print.proofs.Runs.{is_closer, is_dot, fits, up, down, level, mark_turn, turn_of, turned, less}
+use Rattle.py_print.proofs.Runs.{is_closer, is_dot, fits, mark_turn, turn_of, turned, less}
 
 -- ---- names
 

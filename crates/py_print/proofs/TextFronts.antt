@@ -1,9 +1,9 @@
 -- The literal of a text is cut where it ends, and reads as the text.
-use Rattle.std.proofs.Common.{◌≡◌, ℕ, zero, suc, ◌+◌, ◌<◌, ◌≤◌, List, [], ◌∷◌, ◌++◌, length, take, drop, Bool, true, false, cond, ◌==◌, ◌&&◌, ◌||◌, not, nat_lt, Option, Some, None, refl, sym, ap, ◌∙◌, subst, ◌⊎◌, inl, inr, ⊎_elim, arith, append_assoc, lit<}
+use Rattle.std.proofs.Common.{◌≡◌, ℕ, ◌+◌, ◌<◌, ◌≤◌, List, [], ◌∷◌, ◌++◌, length, take, drop, Bool, true, false, cond, ◌==◌, ◌&&◌, ◌||◌, not, nat_lt, Option, Some, None, refl, sym, ap, ◌∙◌, subst, ◌⊎◌, inl, inr, ⊎_elim, arith, append_assoc, lit<}
 use Rattle.std.specs.List.{flat_map, list_any}
 use Rattle.std.specs.Prelude.{is_some, option_map, if◌then◌else◌}
-use Rattle.std.proofs.Math.Seq.{take-append_seam, take-length}
-use Rattle.std.proofs.lemmas.Bool.{cases_Bool, and_parts, or_parts, cond-true, cond-false, false_from_ne_true, ne_eqb, eqb-true, eqb-false}
+use Rattle.std.proofs.Math.Seq.{take-append_seam}
+use Rattle.std.proofs.lemmas.Bool.{cases_Bool, or_parts, cond-true, cond-false, ne_eqb, eqb-false}
 use Rattle.py_scalars.specs.NumberForm.{is_digit}
 use Rattle.py_scalars.specs.Search.{begins_with}
 use Rattle.py_scalars.specs.TextForm.{text_of, shown, shown_other, quote_for, repr_of}
@@ -11,7 +11,7 @@ use Rattle.py_scalars.proofs.TextLemmas.{text_of-repr_of}
 use Rattle.py_lexer.specs.declared.token.TokenKind.TheVariants.{Text as TextToken}
 use Rattle.py_lexer.specs.Form.{is_name_start, is_quote, is_literal}
 use Rattle.py_lexer.specs.Scan.{longer, closed_len, or_else, if_literal, literal_len, word_front, number_front, literal_front, other_front}
-use Rattle.py_lexer.proofs.Quotes.{Found, Front, IsLiteral, chosen, same_some, literal_exact, literal_take}
+use Rattle.py_lexer.proofs.Quotes.{chosen, same_some, literal_exact, literal_take}
 use Rattle.py_grammar.specs.declared.sign.Sign.TheVariants.{Text}
 use Rattle.py_signs.specs.Signs.{text_sign}
 use Rattle.py_block.specs.Lexing.{front_of}

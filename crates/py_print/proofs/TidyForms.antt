@@ -1,5 +1,5 @@
 -- The pieces of a printed expression may stand side by side, and open two brackets for each level at most.
-use Rattle.std.proofs.Common.{◌≡◌, ℕ, zero, suc, ◌+◌, ◌*◌, ◌-◌, ◌≤◌, ◌<◌, max, List, [], ◌∷◌, ◌++◌, length, Bool, true, false, ◌||◌, nat_le, if◌then◌else◌, Option, Some, None, refl, sym, ap, ◌∙◌, subst, arith, append_assoc}
+use Rattle.std.proofs.Common.{◌≡◌, ℕ, zero, suc, ◌+◌, ◌*◌, ◌-◌, ◌≤◌, ◌<◌, max, List, [], ◌∷◌, ◌++◌, length, Bool, true, false, ◌||◌, nat_le, if◌then◌else◌, Some, None, refl, ap, ◌∙◌, arith}
 use Rattle.std.proofs.lemmas.Bool.{leb-true}
 use Rattle.py_ast.specs.Tree as t
 use Rattle.py_ast.specs.Tree.{Tree, Trees, none, more, depth, deepest}
@@ -16,9 +16,9 @@ use Rattle.py_grammar.specs.declared.mark.Mark.TheVariants as m
 use Rattle.py_grammar.specs.declared.sign.Sign.TheVariants.{Name, Number, Text, Mark as The}
 use Rattle.py_print.specs.Pieces.{Piece, sign, space, mark, name, in_parens, in_squares, between, after_space, after_commas, commas, one_comma, values_on, keys_on, pairs, params}
 use Rattle.py_print.specs.Expressions.{rank, operation_level, level_of, at, left_place, right_place, is_number, before_dot, operator, sign_mark, comparison, compared_on, compared, truth_mark, params_of, printed, members, operands}
-use Rattle.py_print.proofs.Classes.{Class, free, unary, point, word, digits, gap, class_of, mark_class}
-use Rattle.py_print.proofs.Runs.{is_closer, is_dot, fits, level, mark_turn, turn_of, run, is_end, starts, level_step, run_append, fits_start, fits_end}
-use Rattle.py_print.proofs.Runs.{IsRun, IsTidy, tidy_run, weaker, run_weaker, nothing_run, run_on, tidy_on, sign_run, sign_tidy, space_run, between_run, between_tidy}
+use Rattle.py_print.proofs.Classes.{Class, free, unary, point, word, digits, gap, mark_class}
+use Rattle.py_print.proofs.Runs.{fits, level, mark_turn, is_end, level_step, run_append, fits_start, fits_end}
+use Rattle.py_print.proofs.Runs.{IsRun, IsTidy, tidy_run, weaker, nothing_run, run_on, tidy_on, sign_run, sign_tidy, space_run, between_tidy}
 use Rattle.py_print.proofs.Runs.{parens_tidy, squares_tidy, curly_tidy, parens_behind, squares_behind}
 
 pub depth_some : (a : Tree) → 1 ≤ depth a

@@ -12,7 +12,7 @@ use Rattle.py_grammar.specs.Grammar as g
 use Rattle.py_grammar.specs.Grammar.{Level, Atom, Primary, Power, Factor, Term, Sum, Comparison, Not, And, Or, Expr, Exprs}
 use Rattle.py_grammar.specs.declared.mark.Mark.{Mark}
 use Rattle.py_grammar.specs.declared.mark.Mark.TheVariants as m
-use Rattle.py_grammar.specs.declared.sign.Sign.TheVariants.{Name, Number, Text}
+use Rattle.py_grammar.specs.declared.sign.Sign.TheVariants.{Number, Text}
 use Rattle.py_print.specs.Pieces.{Piece, sign, space, mark, name, in_parens, in_squares, in_curly, between, after_space, commas, one_comma, pairs, params}
 
 -- ---- levels

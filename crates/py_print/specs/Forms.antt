@@ -1,8 +1,7 @@
 -- What branches and `except` clauses stand for, and what stands in their lines.
-use Rattle.std.specs.Prelude.{ℕ, Bool, true, false, List, [], ◌∷◌, map, Option, Some, None}
+use Rattle.std.specs.Prelude.{ℕ, Bool, true, false, List, [], ◌∷◌, Option, Some, None}
 use Rattle.py_ast.specs.Tree.{Tree}
-use Rattle.py_ast.specs.Statement.{Statement, Block, block_of, view_stmt, view_stmt_step, view_branch_step, view_handler_step}
-use Rattle.py_ast.specs.declared.stmt.Stmt.{Stmt}
+use Rattle.py_ast.specs.Statement.{Statement, Block, view_stmt_step, view_branch_step, view_handler_step}
 use Rattle.py_ast.specs.declared.stmt.Branch.{Branch}
 use Rattle.py_ast.specs.declared.stmt.Handler.{Handler}
 use Rattle.py_ast.specs.declared.stmt.Stmt.TheFolds.{fold-Branch, fold-Handler}
@@ -10,10 +9,6 @@ use Rattle.py_grammar.specs.declared.mark.Mark.{Mark}
 use Rattle.py_grammar.specs.declared.mark.Mark.TheVariants as m
 use Rattle.py_print.specs.Pieces.{Piece, space, mark}
 use Rattle.py_print.specs.Expressions.{printed}
-
--- the block that statements stand for
-abbrev pub view_block : List Stmt → Block
-view_block xs = block_of (map view_stmt xs)
 
 abbrev pub view_branch : Branch → Tree × Block
 view_branch = fold-Branch Statement (Tree × Block) (Option Tree × Option (List ℕ) × Block) view_stmt_step view_branch_step view_handler_step

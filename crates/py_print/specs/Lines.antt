@@ -1,6 +1,6 @@
 -- How simple statements and headers are printed.
 use Rattle.std.specs.Prelude.{ℕ, List, [], ◌∷◌, ◌++◌, map, Option, Some, None}
-use Rattle.py_ast.specs.Tree.{Tree, Trees}
+use Rattle.py_ast.specs.Tree.{Tree}
 use Rattle.py_ast.specs.Statement as s
 use Rattle.py_ast.specs.Statement.{Statement}
 use Rattle.py_ast.specs.declared.expr.BinaryOp.{BinaryOp}

@@ -1,5 +1,5 @@
 -- How cells are printed: each simple statement and each header on a line of its own, and a block one deeper than its header.
-use Rattle.std.specs.Prelude.{ℕ, ◌+◌, ◌*◌, List, [], ◌∷◌, ◌++◌, replicate, map}
+use Rattle.std.specs.Prelude.{ℕ, ◌+◌, ◌*◌, List, [], ◌∷◌, ◌++◌, replicate}
 use Rattle.std.specs.List.{flat_map}
 use Rattle.py_ast.specs.Tree.{Tree}
 use Rattle.py_ast.specs.Statement as s

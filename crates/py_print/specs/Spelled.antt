@@ -1,5 +1,6 @@
 -- What printed lines are to spell.
 use Rattle.std.specs.Prelude.{◌≡◌, ◌<◌, ◌^◌, ℕ, pos, negsuc, List, [], ◌∷◌, Some}
+use Rattle.std.specs.List.{AllByRecursion}
 use Rattle.py_ast.specs.Statement.{Block}
 use Rattle.py_lexer.specs.Form.{kind_of}
 use Rattle.py_lexer.specs.declared.token.TokenKind.TheVariants.{Word}
@@ -10,17 +11,12 @@ use Rattle.py_signs.specs.Signs.{sign_of}
 use Rattle.py_print.specs.Pieces.{signs_in}
 use Rattle.py_print.specs.Printed.{Row, PrintedLine, pieces, line, lines_of}
 
--- a property holds of each
-abbrev pub Every : {X : Type 0} → (X → Type 0) → List X → Type 0
-Every P [] = Unit {0}
-Every P (x ∷ xs) = P x × Every P xs
-
 -- the signs of what stands on a line spell the line of the grammar
 abbrev pub IsSpelled : Row → Type 0
 IsSpelled r = SpellsLine (signs_in (pieces r)) (line r)
 
 abbrev pub AreSpelled : List PrintedLine → Type 0
-AreSpelled xs = Every (λ x. IsSpelled x.row) xs
+AreSpelled xs = AllByRecursion (λ x. IsSpelled x.row) xs
 
 -- ---- what a text can hold
 
@@ -36,7 +32,7 @@ HasOwnName _ = Unit {0}
 
 -- all names of a cell's statements, as they stand on its printed lines
 abbrev pub HasOwnNames : Block → Type 0
-HasOwnNames b = Every (λ x. Every HasOwnName (signs_in (pieces x.row))) (lines_of 0 b)
+HasOwnNames b = AllByRecursion (λ x. AllByRecursion HasOwnName (signs_in (pieces x.row))) (lines_of 0 b)
 
 -- a name as it is written, or a number below 2 ^ 127
 abbrev pub IsWritten : Sign → Type 0
@@ -49,4 +45,4 @@ IsWritten Other = ⊥
 
 -- all names and numbers of a cell's statements, as they stand on its printed lines
 abbrev pub AreWritten : Block → Type 0
-AreWritten b = Every (λ x. Every IsWritten (signs_in (pieces x.row))) (lines_of 0 b)
+AreWritten b = AllByRecursion (λ x. AllByRecursion IsWritten (signs_in (pieces x.row))) (lines_of 0 b)

@@ -1,11 +1,11 @@
 // Statements and blocks printed.
 ghost use Rattle.std.specs.Prelude.{◌≡◌, ◌+◌, ◌∷◌, [], OnOk, IfOk, map, option_map};
 ghost use Rattle.py_ast.specs.View.{view};
-ghost use Rattle.py_ast.specs.Statement.{branches_of, handlers_of, view_stmt};
+ghost use Rattle.py_ast.specs.Statement.{branches_of, handlers_of, view_stmt, view_block};
 ghost use Rattle.py_ast.specs.declared.stmt.Branch.{out-Branch};
 ghost use Rattle.py_ast.specs.declared.stmt.Handler.{out-Handler};
 ghost use Rattle.py_grammar.specs.Line as l;
-ghost use Rattle.py_print.specs.Forms.{test_word, view_block, view_branch, view_handler, word_and};
+ghost use Rattle.py_print.specs.Forms.{test_word, view_branch, view_handler, word_and};
 ghost use Rattle.py_print.specs.Lines as lines;
 ghost use Rattle.py_print.specs.Printed.{catches, lines_of, statement, tests};
 ghost use Rattle.py_print.specs.Writing.{with_header, with_lines, with_otherwise};

@@ -1,7 +1,7 @@
 -- The spots of the nodes stand in the order of the nodes.
 use Rattle.std.proofs.Common.{◌≡◌, ℕ, zero, suc, length, slice_get, option_map, List, [], ◌∷◌, ◌++◌, map, Option, Some, None, refl, sym, ap, subst, ◌∙◌}
 use Rattle.std.proofs.lemmas.List.{length-map, map-append}
-use Rattle.py_ast.specs.Nodes.{Node, Part, a_handler, a_stmt, an_expr, below, below_step, flatten, from_part, from_parts, nodes, nodes_of_all, nodes_of_maybe}
+use Rattle.py_ast.specs.Nodes.{Node, Part, a_stmt, an_expr, below, below_step, from_parts, nodes, nodes_of_all, nodes_of_maybe}
 use Rattle.py_ast.specs.declared.expr.Expr.{Expr, roll-Expr}
 use Rattle.py_ast.specs.declared.expr.Expr.TheOpen as e
 use Rattle.py_ast.specs.declared.expr.Expr.TheOpen.{Expr-F}

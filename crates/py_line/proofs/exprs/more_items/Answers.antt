@@ -1,4 +1,4 @@
-use Rattle.std.proofs.Common.{◌≡◌, ap}
+use Rattle.std.proofs.Common.{◌≡◌}
 use Rattle.std.proofs.lemmas.Result.{err_from_is_err_and}
 use Rattle.py_grammar.specs.Reading.{next_at, items_turn, more_items}
 use Rattle.py_grammar.proofs.Loops.{turn_smaller, turn_goes, turn_ends}

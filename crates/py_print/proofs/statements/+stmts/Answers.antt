@@ -1,10 +1,10 @@
 use Rattle.std.proofs.Common.{◌+◌, map, ap, ◌∙◌}
 use Rattle.py_ast.specs.View.{view}
-use Rattle.py_ast.specs.Statement.{branches_of, handlers_of}
+use Rattle.py_ast.specs.Statement.{branches_of, handlers_of, view_block}
 use Rattle.py_ast.specs.declared.stmt.Branch.{out-Branch}
 use Rattle.py_grammar.specs.Line as l
 use Rattle.py_grammar.specs.declared.mark.Mark.{Mark}
-use Rattle.py_print.specs.Forms.{view_block, view_branch, view_handler, word_and}
+use Rattle.py_print.specs.Forms.{view_branch, view_handler, word_and}
 use Rattle.py_print.specs.Printed.{catches, lines_of, tests}
 use Rattle.py_print.specs.Writing.{with_header, with_lines}
 use Rattle.py_print.proofs.PrintStatements.{block_step, catches_step, tests_step}

@@ -1,7 +1,7 @@
 use Rattle.std.proofs.Common.{◌≡◌, drop, map}
-use Rattle.py_ast.specs.Statement.{branches_of, handlers_of}
+use Rattle.py_ast.specs.Statement.{branches_of, handlers_of, view_block}
 use Rattle.py_grammar.specs.Line as l
-use Rattle.py_print.specs.Forms.{view_block, view_branch, view_handler}
+use Rattle.py_print.specs.Forms.{view_branch, view_handler}
 use Rattle.py_print.specs.Printed.{catches, lines_of, tests}
 use Rattle.py_print.specs.Writing.{with_lines}
 use Rattle.py_print.proofs.PrintStatements.{test_header}

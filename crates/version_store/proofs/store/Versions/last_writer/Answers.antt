@@ -1,4 +1,4 @@
-use Rattle.std.proofs.Common.{◌∙◌, ◌≤◌, ℕ, ap, inr, length, subst, sym}
+use Rattle.std.proofs.Common.{◌∙◌, ◌≤◌, ℕ, ap, inr, subst, sym}
 use Rattle.trace_events.specs.History.{run_of}
 use Rattle.version_store.proofs.Located.{last_writer_some, wrote_before}
 use Rattle.version_store.proofs.store.Versions.last_writer.Goals as goal
