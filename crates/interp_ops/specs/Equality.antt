@@ -1,0 +1,126 @@
+-- Equality of values.
+use Rattle.std.specs.Prelude.{◌==◌, ◌&&◌, ◌||◌, ◌-◌, ℕ, zero, suc, ℤ, Bool, true, false, not, List, [], ◌∷◌, length, Option, Some, None, if◌then◌else◌, slice_get}
+use Rattle.std.specs.Ordering.{int_eq}
+use Rattle.std.specs.Str.{bytes_eq}
+use Rattle.exceptions_core.specs.declared.error.FaultKind.TheVariants as error
+use Rattle.flow_base.specs.declared.event.ReadHow.TheVariants.{Use}
+use Rattle.flow_base.specs.declared.key.Key.{Key}
+use Rattle.flow_base.specs.declared.loc.Loc.TheVariants as loc
+use Rattle.flow_base.specs.declared.numbers.ObjRef.{ObjRef}
+use Rattle.heap_objects.specs.Keyed.{key_of}
+use Rattle.heap_objects.specs.State.{item}
+use Rattle.heap_objects.specs.declared.value.Value.{Value, out-Value}
+use Rattle.heap_objects.specs.declared.value.Value.TheOpen as v
+use Rattle.heap_objects.specs.declared.value.Value.TheOpen.{Value-F}
+use Rattle.interp_ops.specs.Kinds.{pair}
+use Rattle.interp_ops.specs.Meaning.{M, ◌>>=◌, ◌>>◌, pure, fault, key_at, load, present, shape, steps}
+use Rattle.interp_ops.specs.Truths.{identical}
+use Rattle.interp_ops.specs.Walks.{range_size}
+use Rattle.interp_ops.specs.declared.kinds.Pair.{Pair}
+use Rattle.interp_ops.specs.declared.kinds.Pair.TheVariants.{Numbers, Texts, Tuples, Lists, Dicts, Others}
+use Rattle.interp_ops.specs.declared.machine.Machine.{Machine}
+use Rattle.interp_ops.specs.declared.machine.TheConstants.{MAX_DEPTH}
+
+-- ---- levels
+
+-- how many levels may be open below what is open now
+abbrev pub levels_left : Machine → ℕ
+levels_left m = MAX_DEPTH - m.depth
+
+-- ---- what is equal without an event
+
+-- ranges are sequences: they have as many members, and the same ones
+abbrev pub same_members : ℕ → ℕ → ℤ → ℤ → ℤ → ℤ → Bool
+same_members m n a x c z = (m == n) && ((m == 0) || (int_eq a x && ((m == 1) || int_eq c z)))
+
+abbrev pub ranges_equal : ℤ → ℤ → ℤ → ℤ → ℤ → ℤ → Bool
+ranges_equal a b c x y z = same_members (range_size a b c) (range_size x y z) a x c z
+
+-- None, built-ins and references to one object are equal to themselves alone, bound methods with the same function and receiver, and
+-- built-in methods with one name and identical receivers
+abbrev pub alike_at : Value-F Value → Value-F Value → Bool
+alike_at v.Nil v.Nil = true
+alike_at (v.Range a b c) (v.Range x y z) = ranges_equal a b c x y z
+alike_at (v.Builtin f) (v.Builtin g) = f.0 == g.0
+alike_at (v.Obj o) (v.Obj p) = o.0 == p.0
+alike_at (v.Bound f o) (v.Bound g p) = (f.0 == g.0) && (o.0 == p.0)
+alike_at (v.Method f x) (v.Method g y) = (f.0 == g.0) && identical x y
+alike_at _ _ = false
+
+abbrev pub alike : Value → Value → Bool
+alike a b = alike_at (out-Value a) (out-Value b)
+
+-- ---- two sequences beside each other
+
+-- the lengths of both; the shapes of lists are used
+abbrev pub lengths : Pair → M (ℕ × ℕ)
+lengths (Tuples xs ys) = pure (length xs, length ys)
+lengths (Lists o p) = shape Use o >>= λ m. shape Use p >>= λ n. pure (m, n)
+lengths _ = pure (0, 0)
+
+-- what stands at a place of both, for a step; items of lists are used
+abbrev pub sides : Pair → ℕ → M (Option Value × Option Value)
+sides (Tuples xs ys) i = steps 1 >> pure (slice_get xs i, slice_get ys i)
+sides (Lists o p) i = steps 1 >> (load (item o i) >>= λ x. load (item p i) >>= λ y. pure (x, y))
+sides _ i = steps 1 >> pure (None, None)
+
+-- a test of two values that are there
+abbrev pub both : (Value → Value → M Bool) → Option Value × Option Value → M Bool
+both test (Some x, Some y) = test x y
+both test (_, _) = pure false
+
+-- goes on where a test passes
+abbrev pub and_then : M Bool → Bool → M Bool
+and_then more true = more
+and_then more false = pure false
+
+-- the key of a value that is there
+abbrev pub key_if : Option Value → Option Key
+key_if None = None
+key_if (Some x) = key_of x
+
+module _ (below : Value → Value → M Bool) where
+  -- so many pairs from a place on are equal; the first that is not ends the test
+  abbrev pub equal_from : Pair → ℕ → ℕ → M Bool
+  equal_from s i zero = pure true
+  equal_from s i (suc n) = sides s i >>= both below >>= and_then (equal_from s (suc i) n)
+
+  abbrev pub equal_sequences : Pair → ℕ × ℕ → M Bool
+  equal_sequences s counts = if counts.0 == counts.1 then equal_from s 0 counts.0 else pure false
+
+  -- both dictionaries have an equal value at the key, whose presence in the second is used first
+  abbrev pub equal_at : ObjRef → ObjRef → Key → Bool → M Bool
+  equal_at d e k false = pure false
+  equal_at d e k true = load (loc.Item d k) >>= λ x. load (loc.Item e k) >>= λ y. both below (x, y)
+
+  abbrev pub equal_entry : ObjRef → ObjRef → Option Key → M Bool
+  equal_entry d e None = pure false
+  equal_entry d e (Some k) = present e k >>= equal_at d e k
+
+  -- so many keys of the first dictionary, from a place on, have equal values in both, with a step each
+  abbrev pub equal_entries : ObjRef → ObjRef → ℕ → ℕ → M Bool
+  equal_entries d e i zero = pure true
+  equal_entries d e i (suc n) = steps 1 >> (key_at d i >>= λ x. equal_entry d e (key_if x) >>= and_then (equal_entries d e (suc i) n))
+
+  abbrev pub equal_dicts : ObjRef → ObjRef → ℕ → ℕ → M Bool
+  equal_dicts d e m n = if m == n then equal_entries d e 0 m else pure false
+
+  abbrev pub equal_pair : Value → Value → Pair → M Bool
+  equal_pair a b (Numbers x y) = pure (int_eq x y)
+  equal_pair a b (Texts s t) = pure (bytes_eq s t)
+  equal_pair a b (Tuples xs ys) = lengths (Tuples xs ys) >>= equal_sequences (Tuples xs ys)
+  equal_pair a b (Lists o p) = if o.0 == p.0 then pure true else lengths (Lists o p) >>= equal_sequences (Lists o p)
+  equal_pair a b (Dicts d e) = if d.0 == e.0 then pure true else shape Use d >>= λ m. shape Use e >>= λ n. equal_dicts d e m n
+  equal_pair a b Others = pure (alike a b)
+
+  unfoldable pub equal_with : Value → Value → M Bool
+  equal_with a b = pair a b >>= equal_pair a b
+
+-- with so many levels left below this one; each level below the first counts as one that is open
+unfoldable pub equal_to : ℕ → Value → Value → M Bool
+equal_to zero a b = equal_with (λ x y. fault error.Depth) a b
+equal_to (suc n) a b = equal_with (equal_to n) a b
+
+-- `a == b`
+unfoldable pub equal : Value → Value → M Bool
+equal a b m = equal_to (levels_left m) a b m

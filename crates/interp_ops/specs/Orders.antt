@@ -1,0 +1,115 @@
+-- The order of values, and which values are sorted together.
+use Rattle.std.specs.Prelude.{◌≡◌, ◌==◌, ◌&&◌, ◌||◌, ℕ, zero, suc, min, ℤ, Bool, true, false, nat_lt, nat_le, int_lt, int_le, List, [], ◌∷◌, Option, Some, None}
+use Rattle.std.specs.Cmp.Lexicographic.{slice_cmp}
+use Rattle.std.specs.List.{AllByRecursion}
+use Rattle.std.specs.Ordering.{is_lt, is_le, nat_cmp}
+use Rattle.std.specs.declared.cmp.Ordering.{Ordering}
+use Rattle.exceptions_core.specs.declared.error.FaultKind.TheVariants as error
+use Rattle.heap_objects.specs.Tree as tree
+use Rattle.heap_objects.specs.Tree.{Tree, Trees, none, more, tree_of}
+use Rattle.heap_objects.specs.declared.value.Value.{Value}
+use Rattle.interp_ops.specs.Equality.{both, equal_to, lengths, levels_left, sides}
+use Rattle.interp_ops.specs.Kinds.{pair}
+use Rattle.interp_ops.specs.Meaning.{M, ◌>>=◌, pure, fault}
+use Rattle.interp_ops.specs.declared.kinds.Pair.{Pair}
+use Rattle.interp_ops.specs.declared.kinds.Pair.TheVariants.{Numbers, Texts, Tuples, Lists, Dicts, Others}
+
+-- ---- the order
+
+-- before, or where both may be equal before or equal
+abbrev pub number_before : Bool → ℤ → ℤ → Bool
+number_before true x y = int_le x y
+number_before false x y = int_lt x y
+
+abbrev pub count_before : Bool → ℕ → ℕ → Bool
+count_before true m n = nat_le m n
+count_before false m n = nat_lt m n
+
+abbrev pub cmp_before : Bool → Ordering → Bool
+cmp_before true c = is_le c
+cmp_before false c = is_lt c
+
+module _ (equal_below less_below : Value → Value → M Bool) where
+  -- the first unequal pair decides
+  abbrev pub decided : Option Value × Option Value → M Bool → Bool → M Bool
+  decided xy rest true = rest
+  decided xy rest false = both less_below xy
+
+  -- of so many pairs from a place on; where all are equal, this
+  abbrev pub less_from : Pair → ℕ → ℕ → Bool → M Bool
+  less_from s i zero otherwise = pure otherwise
+  less_from s i (suc n) otherwise = sides s i >>= λ xy. both equal_below xy >>= decided xy (less_from s (suc i) n otherwise)
+
+  abbrev pub less_sequences : Bool → Pair → ℕ × ℕ → M Bool
+  less_sequences same s counts = less_from s 0 (min counts.0 counts.1) (count_before same counts.0 counts.1)
+
+  abbrev pub less_pair : Bool → Pair → M Bool
+  less_pair same (Numbers x y) = pure (number_before same x y)
+  less_pair same (Texts s t) = pure (cmp_before same (slice_cmp nat_cmp s t))
+  less_pair same (Tuples xs ys) = lengths (Tuples xs ys) >>= less_sequences same (Tuples xs ys)
+  less_pair same (Lists o p) = lengths (Lists o p) >>= less_sequences same (Lists o p)
+  less_pair same (Dicts d e) = fault error.Kind
+  less_pair same Others = fault error.Kind
+
+  unfoldable pub less_with : Bool → Value → Value → M Bool
+  less_with same a b = pair a b >>= less_pair same
+
+abbrev pub too_deep : Value → Value → M Bool
+too_deep x y = fault error.Depth
+
+-- with so many levels left below this one
+unfoldable pub less_to : ℕ → Bool → Value → Value → M Bool
+less_to zero same a b = less_with too_deep too_deep same a b
+less_to (suc n) same a b = less_with (equal_to n) (less_to n false) same a b
+
+-- `a < b`
+unfoldable pub less : Value → Value → M Bool
+less a b m = less_to (levels_left m) false a b m
+
+-- `a <= b`
+unfoldable pub less_or_equal : Value → Value → M Bool
+less_or_equal a b m = less_to (levels_left m) true a b m
+
+-- ---- which values are sorted together
+
+mutual
+  pub data SortKind : Type 0 where
+    number : SortKind
+    text : SortKind
+    tuple : SortKinds → SortKind
+
+  pub data SortKinds : Type 0 where
+    done : SortKinds
+    then : SortKind → SortKinds → SortKinds
+
+abbrev pub then_kind : Option SortKind → Option SortKinds → Option SortKinds
+then_kind None ks = None
+then_kind (Some k) None = None
+then_kind (Some k) (Some ks) = Some (then k ks)
+
+abbrev pub tuple_kind : Option SortKinds → Option SortKind
+tuple_kind None = None
+tuple_kind (Some ks) = Some (tuple ks)
+
+abbrev mutual
+  -- number, text, or tuple with the sort kinds of its parts; what is left has none
+  pub sort_kind : Tree → Option SortKind
+  sort_kind (tree.int n) = Some number
+  sort_kind (tree.truth b) = Some number
+  sort_kind (tree.text t) = Some text
+  sort_kind (tree.tuple ts) = tuple_kind (sort_kinds ts)
+  sort_kind tree.nil = None
+  sort_kind (tree.range a b c) = None
+  sort_kind (tree.builtin f) = None
+  sort_kind (tree.obj o) = None
+  sort_kind (tree.bound f o) = None
+  sort_kind (tree.method f x) = None
+
+  pub sort_kinds : Trees → Option SortKinds
+  sort_kinds none = Some done
+  sort_kinds (more t ts) = then_kind (sort_kind t) (sort_kinds ts)
+
+-- the values have one sort kind
+pub record SortTogether (values : List Value) : Type 0 where
+  pub kind : SortKind
+  pub all : AllByRecursion (λ x. sort_kind (tree_of x) ≡ Some kind) values
