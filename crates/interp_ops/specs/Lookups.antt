@@ -44,15 +44,15 @@ abbrev pub exception_in : (Option Value → Option ExcClass) → State → Optio
 exception_in above s None = None
 exception_in above s (Some x) = exception_at above s (out-Value x)
 
--- the exception class that a class is, or the first one above it, with at most so many classes between; the bases of a class were made
--- before it, so that there are fewer of them than objects
+-- the exception class that a class is, or the first one above it, among at most so many classes
 abbrev pub exception_above : State → ℕ → Option Value → Option ExcClass
-exception_above s zero x = exception_in (λ _. None) s x
+exception_above s zero x = None
 exception_above s (suc n) x = exception_in (exception_above s n) s x
 
--- the built-in exception class that a class is or is below, if it is below Exception
+-- the built-in exception class that a class is or is below, if it is below Exception; the bases of a class were made before it, so that
+-- there are fewer of them than objects
 abbrev pub exception_of : State → Value → Option ExcClass
-exception_of s class = exception_above s (length s.nodes) (Some class)
+exception_of s class = exception_at (exception_above s (length s.nodes)) s (out-Value class)
 
 -- ---- lookups
 

@@ -2,6 +2,7 @@
 //! specs/: its value, the machine after it with its events, the steps that it takes, and the error that it raises.
 #![tactic(auto)]
 
+mod classes;
 mod draft;
 mod equality;
 mod errors;
