@@ -147,19 +147,28 @@ plain d t = steps (length t) >> pure (d ++ t)
 abbrev pub ends_with : List ℕ → List ℕ → M (List ℕ)
 ends_with word d = pure (d ++ word)
 
-module _ (below : Shower) (inside : List ObjRef) where
-  abbrev pub show_part : (Walker → List ℕ → List ℕ → M (List ℕ)) → List ℕ → List ℕ → Option Value × Walker → M (List ℕ)
-  show_part more comma d (None, w) = pure d
-  show_part more comma d (Some x, w) = below inside (d ++ comma) x >>= more w (codes ", ")
+-- between parts
+abbrev pub comma : Bool → List ℕ
+comma false = []
+comma true = codes ", "
 
-  -- the parts of a walk with a comma and a space between them, in at most so many turns
-  unfoldable pub show_parts : ℕ → Walker → List ℕ → List ℕ → M (List ℕ)
-  show_parts zero w comma d = stop_with stop.Steps
-  show_parts (suc n) w comma d = next w >>= show_part (show_parts n) comma d
+module _ (below : Shower) (inside : List ObjRef) where
+  -- a part, with a comma and a space before it where it follows another one
+  abbrev pub show_next : Bool → List ℕ → Value → M (List ℕ)
+  show_next follows d x = below inside (d ++ comma follows) x
+
+  abbrev pub show_part : (Walker → Bool → List ℕ → M (List ℕ)) → Bool → List ℕ → Option Value × Walker → M (List ℕ)
+  show_part more follows d (None, w) = pure d
+  show_part more follows d (Some x, w) = show_next follows d x >>= more w true
+
+  -- the parts of a walk, in at most so many turns
+  unfoldable pub show_parts : ℕ → Walker → Bool → List ℕ → M (List ℕ)
+  show_parts zero w follows d = stop_with stop.Steps
+  show_parts (suc n) w follows d = next w >>= show_part (show_parts n) follows d
 
   -- each part costs a step, so that one turn more than the steps that are left is enough
   unfoldable pub show_walk : Walker → List ℕ → M (List ℕ)
-  show_walk w d m = show_parts (suc m.left) w [] d m
+  show_walk w d m = show_parts (suc m.left) w false d m
 
   -- the item is used, and takes its step; then the key stands before the value
   abbrev pub show_pair : List ℕ → Value → Option Value → M (List ℕ)
@@ -175,9 +184,9 @@ module _ (below : Shower) (inside : List ObjRef) where
   show_entry o d (Some key) = show_item o d key (key_if (Some key))
 
   -- so many entries of a dictionary from a place on
-  unfoldable pub show_entries : ObjRef → ℕ → ℕ → List ℕ → List ℕ → M (List ℕ)
-  show_entries o i zero comma d = pure d
-  show_entries o i (suc n) comma d = key_at o i >>= show_entry o (d ++ comma) >>= show_entries o (suc i) n (codes ", ")
+  unfoldable pub show_entries : ObjRef → ℕ → ℕ → Bool → List ℕ → M (List ℕ)
+  show_entries o i zero follows d = pure d
+  show_entries o i (suc n) follows d = key_at o i >>= show_entry o (d ++ comma follows) >>= show_entries o (suc i) n true
 
 -- a tuple of one has a comma behind it
 abbrev pub tuple_end : List Value → List ℕ
@@ -192,7 +201,7 @@ module _ (below : Shower) (arguments : Arguments) (inside : List ObjRef) (d : Li
   show_form (Plain t) = plain d t
   show_form (AList o) = show_walk below (o ∷ inside) (Items o 0) (d ++ codes "[") >>= ends_with (codes "]")
   show_form (Tuple xs) = show_walk below inside (Parts xs 0) (d ++ codes "(") >>= ends_with (tuple_end xs)
-  show_form (Dict o) = shape Use o >>= λ n. show_entries below (o ∷ inside) o 0 n [] (d ++ codes "{") >>= ends_with (codes "}")
+  show_form (Dict o) = shape Use o >>= λ n. show_entries below (o ∷ inside) o 0 n false (d ++ codes "{") >>= ends_with (codes "}")
   show_form (Error o name) = args_of o >>= λ xs. arguments (o ∷ inside) (d ++ name ++ codes "(") xs >>= ends_with (codes ")")
 
   unfoldable pub show_with : Value → M (List ℕ)

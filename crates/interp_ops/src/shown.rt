@@ -1,5 +1,5 @@
 // The texts of values.
-ghost use Rattle.std.specs.Prelude.{◌≡◌, ◌∷◌, [], IfOk, suc};
+ghost use Rattle.std.specs.Prelude.{◌≡◌, ◌∷◌, ◌++◌, IfOk, false, suc};
 ghost use Rattle.heap_objects.specs.Keyed.{key_of};
 ghost use Rattle.interp_ops.specs.Meaning.{Runs};
 ghost use Rattle.interp_ops.specs.Shown as spec;
@@ -128,40 +128,46 @@ fn show_walk(m: &mut Machine, levels: u32, inside: &[ObjRef], walker: Walker, d:
     let mut turns = m.left as u64 + 1;
     let mut rest = walker;
     let mut draft = d;
-    let mut comma = "";
+    let mut follows = false;
     while turns != 0 {
         turns -= 1;
-        let (part, after) = next(m, rest)?;
-        rest = after;
-        match part {
-            Some(v) => {
-                let begun = draft.with_word(comma)?;
-                draft = show_to(m, levels, inside, begun, &v)?;
-                comma = ", ";
-            }
-            None => return Ok(draft),
-        }
+        let (part, behind) = next(m, rest)?;
+        rest = behind;
+        let Some(v) = part else {
+            return Ok(draft);
+        };
+        draft = show_next(m, levels, inside, follows, draft, v)?;
+        follows = true;
     }
     Err(Stop::Steps)
+}
+
+// A part, with a comma and a space before it where it follows another one.
+#[cycle(show)]
+fn show_next(m: &mut Machine, levels: u32, inside: &[ObjRef], follows: bool, d: Draft, v: Value) -> Result<Draft, Stop>
+    ensures { Runs (spec.show_next (spec.show_to levels) inside.now follows d v m.old) result m.new }
+{
+    let begun = with_comma(d, follows)?;
+    show_to(m, levels, inside, begun, &v)
 }
 
 // So many entries of a dictionary.
 #[tactic(auto, unfolding(crate::specs::Shown::show_entries, crate::specs::Meaning::key_at))]
 #[cycle(show)]
 fn show_entries(m: &mut Machine, levels: u32, inside: &[ObjRef], o: ObjRef, count: usize, d: Draft) -> Result<Draft, Stop>
-    ensures { Runs (spec.show_entries (spec.show_to levels) inside.now o 0 count [] d m.old) result m.new }
+    ensures { Runs (spec.show_entries (spec.show_to levels) inside.now o 0 count false d m.old) result m.new }
 {
     let mut left = count;
     let mut i = 0;
     let mut draft = d;
-    let mut comma = "";
+    let mut follows = false;
     while left != 0 {
         left -= 1;
         let key = m.key_at(o, i)?;
-        let begun = draft.with_word(comma)?;
+        let begun = with_comma(draft, follows)?;
         draft = show_entry(m, levels, inside, o, begun, key)?;
         i = after(i)?;
-        comma = ", ";
+        follows = true;
     }
     Ok(draft)
 }
@@ -230,6 +236,12 @@ fn tuple_end(xs: &[Value]) -> &'static str
         [_] => ",)",
         _ => ")",
     }
+}
+
+fn with_comma(d: Draft, follows: bool) -> Result<Draft, NoMemory>
+    ensures { IfOk result (λ draft. draft ≡ d ++ spec.comma follows) }
+{
+    if follows { d.with_word(", ") } else { Ok(d) }
 }
 
 fn with_object(alloc: Global, o: ObjRef, inside: &[ObjRef]) -> Result<Vec<ObjRef>, NoMemory>
