@@ -1,11 +1,11 @@
 -- What is shown in so many levels, turns or entries, and what is above a class, one step further.
-use Rattle.std.proofs.Common.{◌≡◌, ◌≢◌, ◌-◌, ◌++◌, ◌∙◌, ℕ, suc, zero, Bool, true, List, Option, Some, Result, Ok, Err, refl, ap, arith}
+use Rattle.std.proofs.Common.{◌≡◌, ◌≢◌, ◌-◌, ◌++◌, ◌≤◌, ◌∷◌, [], length, ℕ, suc, zero, Bool, true, List, Option, Some, Result, Ok, Err, refl, ap, arith}
 use Rattle.flow_base.specs.declared.numbers.ObjRef.{ObjRef}
 use Rattle.heap_objects.specs.State.{State}
 use Rattle.heap_objects.specs.declared.value.Value.{Value}
 use Rattle.interp_ops.specs.Lookups.{exception_above, exception_in}
 use Rattle.interp_ops.specs.Meaning.{go_on, key_at, key_in}
-use Rattle.interp_ops.specs.Shown.{Shower, comma, show_entries, show_entry, show_next, show_parts}
+use Rattle.interp_ops.specs.Shown.{Shower, Teller, comma, show_entries, show_entry, show_next, show_parts, str_arguments, str_to, str_with, tuple_to}
 use Rattle.interp_ops.specs.Walks.{next}
 use Rattle.interp_ops.specs.declared.machine.Machine.{Machine}
 use Rattle.interp_ops.specs.declared.stop.Stop.{Stop}
@@ -35,3 +35,15 @@ unfolding show_entries key_at
 entries_more below inside o i j zero follows d begun key r m new some after all held shown = absurd (some refl)
 entries_more below inside o i j (suc n) follows d begun key r m new some after all held shown =
     let less : suc n - 1 ≡ n = omega arith in rw (less, after, ← held, ← all, shown) refl
+
+pub told_more : (n : ℕ) (d : List ℕ) (x : Value) (m : Machine) → n ≢ 0 → str_to n d x m ≡ str_with n (n - 1) (str_to (n - 1)) d x m
+unfolding str_to
+told_more zero d x m some = absurd (some refl)
+told_more (suc n) d x m some = let less : suc n - 1 ≡ n = omega arith in rw less refl
+
+-- several arguments of an exception
+pub several : (below : ℕ) (told : Teller) (d : List ℕ) (keyed : Bool) (xs : List Value) (m : Machine) → 2 ≤ length xs
+    → str_arguments below told d keyed xs m ≡ tuple_to below d xs m
+several below told d keyed [] m some = absurd (omega arith)
+several below told d keyed (x ∷ []) m some = absurd (omega arith)
+several below told d keyed (x ∷ y ∷ xs) m some = refl

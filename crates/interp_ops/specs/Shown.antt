@@ -235,27 +235,31 @@ exception class m = (Ok (exception_of m.heap class), m)
 abbrev pub Teller : Type 0
 Teller = List ℕ → Value → M (List ℕ)
 
--- the tuple of the arguments of an exception is one level, as they are
+-- the tuple of the arguments of an exception, where so many levels may be open, this one counted
 abbrev pub tuple_to : ℕ → List ℕ → List Value → M (List ℕ)
 tuple_to n d xs = arguments_to n [] (d ++ codes "(") xs >>= ends_with (tuple_end xs)
 
--- with so many levels below this one
-module _ (n : ℕ) (below : Teller) (d : List ℕ) where
-  -- no arguments give no text, one gives its own, and several that of their tuple
+-- no arguments give no text, one gives its own, which is shown for a KeyError, and several that of their tuple
+module _ (below : ℕ) (told : Teller) (d : List ℕ) where
+  abbrev pub str_one : Bool → Value → M (List ℕ)
+  str_one true x = show_to below [] d x
+  str_one false x = told d x
+
   abbrev pub str_arguments : Bool → List Value → M (List ℕ)
   str_arguments keyed [] = pure d
-  str_arguments true (x ∷ []) = show_to n [] d x
-  str_arguments false (x ∷ []) = below d x
-  str_arguments keyed xs = tuple_to n d xs
+  str_arguments keyed (x ∷ []) = str_one keyed x
+  str_arguments keyed xs = tuple_to below d xs
 
+-- where so many levels may be open, this one counted, and so many below this one, in which that is told
+module _ (n below : ℕ) (told : Teller) (d : List ℕ) where
   abbrev pub str_instance : Value → ObjRef → Option ExcClass → M (List ℕ)
-  str_instance x o None = show_to (suc n) [] d x
-  str_instance x o (Some c) = args_of o >>= str_arguments (is_key_error c)
+  str_instance x o None = show_to n [] d x
+  str_instance x o (Some c) = args_of o >>= str_arguments below told d (is_key_error c)
 
   abbrev pub str_of : Value → Kind → M (List ℕ)
   str_of x (k.Text t) = plain d t
   str_of x (k.Instance o class) = exception class >>= str_instance x o
-  str_of x _ = show_to (suc n) [] d x
+  str_of x _ = show_to n [] d x
 
   unfoldable pub str_with : Value → M (List ℕ)
   str_with x = kind x >>= str_of x
@@ -263,7 +267,7 @@ module _ (n : ℕ) (below : Teller) (d : List ℕ) where
 -- where so many levels may be open, this one counted; the argument of an exception, or the tuple of its arguments, is the one below it
 unfoldable pub str_to : ℕ → Teller
 str_to zero d x = fault error.Depth
-str_to (suc n) d x = str_with n (str_to n) d x
+str_to (suc n) d x = str_with (suc n) n (str_to n) d x
 
 -- `str(x)`
 unfoldable pub to_str : Value → M (List ℕ)

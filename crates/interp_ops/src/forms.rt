@@ -79,12 +79,14 @@ fn object_form(m: &Machine, inside: bool, o: ObjRef) -> Result<Form, NoMemory>
         Some(Object::Class { name, base: _ }) => {
             Ok(Form::Plain(named(m, "<class '", Some(*name), "'>")?))
         }
-        Some(Object::Function {
-            name,
-            code: _,
-            defaults: _,
-            parent: _,
-        }) => Ok(Form::Plain(named(m, "<function ", Some(*name), ">")?)),
+        Some(
+            Object::Function {
+                name,
+                code: _,
+                defaults: _,
+                parent: _,
+            },
+        ) => Ok(Form::Plain(named(m, "<function ", Some(*name), ">")?)),
         Some(Object::Frame(_)) => word(m.alloc, ""),
         None => word(m.alloc, ""),
     }
@@ -130,12 +132,14 @@ fn name_in(m: &Machine, o: ObjRef) -> Option<Sym>
 {
     match m.fixed(o) {
         Some(Object::Class { name, base: _ }) => Some(*name),
-        Some(Object::Function {
-            name,
-            code: _,
-            defaults: _,
-            parent: _,
-        }) => Some(*name),
+        Some(
+            Object::Function {
+                name,
+                code: _,
+                defaults: _,
+                parent: _,
+            },
+        ) => Some(*name),
         _ => None,
     }
 }
@@ -217,8 +221,12 @@ fn is_among(numbers: &[u64], s: Sym) -> bool
 fn range_text(alloc: Global, start: i128, stop: i128, step: i128) -> Result<PyText, NoMemory>
     ensures { IfOk result (λ t. t ≡ spec.range_text start stop step) }
 {
-    let from = Draft::new(alloc).with_word("range(")?.with_points(number_text(alloc, start)?.as_slice())?;
-    let to = from.with_word(", ")?.with_points(number_text(alloc, stop)?.as_slice())?;
+    let from = Draft::new(alloc)
+        .with_word("range(")?
+        .with_points(number_text(alloc, start)?.as_slice())?;
+    let to = from
+        .with_word(", ")?
+        .with_points(number_text(alloc, stop)?.as_slice())?;
     with_step(alloc, to, step)?.with_word(")")?.into_text(alloc)
 }
 
@@ -229,5 +237,7 @@ fn with_step(alloc: Global, draft: Draft, step: i128) -> Result<Draft, NoMemory>
     if step == 1 {
         return Ok(draft);
     }
-    draft.with_word(", ")?.with_points(number_text(alloc, step)?.as_slice())
+    draft
+        .with_word(", ")?
+        .with_points(number_text(alloc, step)?.as_slice())
 }

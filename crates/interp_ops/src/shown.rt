@@ -31,7 +31,13 @@ pub fn show(m: &mut Machine, v: &Value) -> Result<PyText, Stop>
 
 // What a value is shown as, behind a text, where so many levels may be open, this one counted.
 #[cycle(show)]
-fn show_to(m: &mut Machine, levels: u32, inside: &[ObjRef], d: Draft, v: &Value) -> Result<Draft, Stop>
+pub(crate) fn show_to(
+    m: &mut Machine,
+    levels: u32,
+    inside: &[ObjRef],
+    d: Draft,
+    v: &Value,
+) -> Result<Draft, Stop>
     ensures { Runs (spec.show_to levels inside.now d v.now m.old) result m.new }
 {
     if levels == 0 {
@@ -41,7 +47,13 @@ fn show_to(m: &mut Machine, levels: u32, inside: &[ObjRef], d: Draft, v: &Value)
 }
 
 #[cycle(show)]
-fn arguments_to(m: &mut Machine, levels: u32, inside: &[ObjRef], d: Draft, xs: Values) -> Result<Draft, Stop>
+pub(crate) fn arguments_to(
+    m: &mut Machine,
+    levels: u32,
+    inside: &[ObjRef],
+    d: Draft,
+    xs: Values,
+) -> Result<Draft, Stop>
     ensures { Runs (spec.arguments_to levels inside.now d xs m.old) result m.new }
 {
     if levels == 0 {
@@ -52,7 +64,13 @@ fn arguments_to(m: &mut Machine, levels: u32, inside: &[ObjRef], d: Draft, xs: V
 
 #[tactic(auto, unfolding(crate::specs::Shown::show_with, crate::specs::Shown::form))]
 #[cycle(show)]
-fn show_with(m: &mut Machine, levels: u32, inside: &[ObjRef], d: Draft, v: &Value) -> Result<Draft, Stop>
+fn show_with(
+    m: &mut Machine,
+    levels: u32,
+    inside: &[ObjRef],
+    d: Draft,
+    v: &Value,
+) -> Result<Draft, Stop>
     ensures { Runs (spec.show_with (spec.show_to levels) (spec.arguments_to levels) inside.now d v.now m.old) result m.new }
 {
     match form_of(m, inside, v)? {
@@ -65,7 +83,7 @@ fn show_with(m: &mut Machine, levels: u32, inside: &[ObjRef], d: Draft, v: &Valu
 }
 
 // A text that is not visited takes a step for each of its code points.
-fn plain(m: &mut Machine, d: Draft, t: &PyText) -> Result<Draft, Stop>
+pub(crate) fn plain(m: &mut Machine, d: Draft, t: &PyText) -> Result<Draft, Stop>
     ensures { Runs (spec.plain d t.now m.old) result m.new }
 {
     m.steps(t.len() as u128)?;
@@ -74,7 +92,13 @@ fn plain(m: &mut Machine, d: Draft, t: &PyText) -> Result<Draft, Stop>
 }
 
 #[cycle(show)]
-fn show_list(m: &mut Machine, levels: u32, inside: &[ObjRef], d: Draft, o: ObjRef) -> Result<Draft, Stop>
+fn show_list(
+    m: &mut Machine,
+    levels: u32,
+    inside: &[ObjRef],
+    d: Draft,
+    o: ObjRef,
+) -> Result<Draft, Stop>
     ensures { Runs (spec.show_form (spec.show_to levels) (spec.arguments_to levels) inside.now d (form.List o) m.old) result m.new }
 {
     let within = with_object(m.alloc, o, inside)?;
@@ -85,7 +109,13 @@ fn show_list(m: &mut Machine, levels: u32, inside: &[ObjRef], d: Draft, o: ObjRe
 }
 
 #[cycle(show)]
-fn show_tuple(m: &mut Machine, levels: u32, inside: &[ObjRef], d: Draft, xs: Values) -> Result<Draft, Stop>
+fn show_tuple(
+    m: &mut Machine,
+    levels: u32,
+    inside: &[ObjRef],
+    d: Draft,
+    xs: Values,
+) -> Result<Draft, Stop>
     ensures { Runs (spec.show_form (spec.show_to levels) (spec.arguments_to levels) inside.now d (form.Tuple xs) m.old) result m.new }
 {
     let end = tuple_end(xs.as_slice());
@@ -96,7 +126,13 @@ fn show_tuple(m: &mut Machine, levels: u32, inside: &[ObjRef], d: Draft, xs: Val
 }
 
 #[cycle(show)]
-fn show_dict(m: &mut Machine, levels: u32, inside: &[ObjRef], d: Draft, o: ObjRef) -> Result<Draft, Stop>
+fn show_dict(
+    m: &mut Machine,
+    levels: u32,
+    inside: &[ObjRef],
+    d: Draft,
+    o: ObjRef,
+) -> Result<Draft, Stop>
     ensures { Runs (spec.show_form (spec.show_to levels) (spec.arguments_to levels) inside.now d (form.Dict o) m.old) result m.new }
 {
     let within = with_object(m.alloc, o, inside)?;
@@ -108,7 +144,14 @@ fn show_dict(m: &mut Machine, levels: u32, inside: &[ObjRef], d: Draft, o: ObjRe
 }
 
 #[cycle(show)]
-fn show_error(m: &mut Machine, levels: u32, inside: &[ObjRef], d: Draft, o: ObjRef, name: &PyText) -> Result<Draft, Stop>
+fn show_error(
+    m: &mut Machine,
+    levels: u32,
+    inside: &[ObjRef],
+    d: Draft,
+    o: ObjRef,
+    name: &PyText,
+) -> Result<Draft, Stop>
     ensures { Runs (spec.show_form (spec.show_to levels) (spec.arguments_to levels) inside.now d (form.Error o name.now) m.old) result m.new }
 {
     let within = with_object(m.alloc, o, inside)?;
@@ -122,7 +165,13 @@ fn show_error(m: &mut Machine, levels: u32, inside: &[ObjRef], d: Draft, o: ObjR
 // The parts of a walk, with a comma and a space between them.
 #[tactic(auto, unfolding(crate::specs::Shown::show_walk, crate::specs::Shown::show_parts))]
 #[cycle(show)]
-fn show_walk(m: &mut Machine, levels: u32, inside: &[ObjRef], walker: Walker, d: Draft) -> Result<Draft, Stop>
+fn show_walk(
+    m: &mut Machine,
+    levels: u32,
+    inside: &[ObjRef],
+    walker: Walker,
+    d: Draft,
+) -> Result<Draft, Stop>
     ensures { Runs (spec.show_walk (spec.show_to levels) inside.now walker d m.old) result m.new }
 {
     let mut turns = m.left as u64 + 1;
@@ -144,7 +193,14 @@ fn show_walk(m: &mut Machine, levels: u32, inside: &[ObjRef], walker: Walker, d:
 
 // A part, with a comma and a space before it where it follows another one.
 #[cycle(show)]
-fn show_next(m: &mut Machine, levels: u32, inside: &[ObjRef], follows: bool, d: Draft, v: Value) -> Result<Draft, Stop>
+fn show_next(
+    m: &mut Machine,
+    levels: u32,
+    inside: &[ObjRef],
+    follows: bool,
+    d: Draft,
+    v: Value,
+) -> Result<Draft, Stop>
     ensures { Runs (spec.show_next (spec.show_to levels) inside.now follows d v m.old) result m.new }
 {
     let begun = with_comma(d, follows)?;
@@ -154,7 +210,14 @@ fn show_next(m: &mut Machine, levels: u32, inside: &[ObjRef], follows: bool, d: 
 // So many entries of a dictionary.
 #[tactic(auto, unfolding(crate::specs::Shown::show_entries, crate::specs::Meaning::key_at))]
 #[cycle(show)]
-fn show_entries(m: &mut Machine, levels: u32, inside: &[ObjRef], o: ObjRef, count: usize, d: Draft) -> Result<Draft, Stop>
+fn show_entries(
+    m: &mut Machine,
+    levels: u32,
+    inside: &[ObjRef],
+    o: ObjRef,
+    count: usize,
+    d: Draft,
+) -> Result<Draft, Stop>
     ensures { Runs (spec.show_entries (spec.show_to levels) inside.now o 0 count false d m.old) result m.new }
 {
     let mut left = count;
@@ -173,7 +236,14 @@ fn show_entries(m: &mut Machine, levels: u32, inside: &[ObjRef], o: ObjRef, coun
 }
 
 #[cycle(show)]
-fn show_entry(m: &mut Machine, levels: u32, inside: &[ObjRef], o: ObjRef, d: Draft, key: Option<Value>) -> Result<Draft, Stop>
+fn show_entry(
+    m: &mut Machine,
+    levels: u32,
+    inside: &[ObjRef],
+    o: ObjRef,
+    d: Draft,
+    key: Option<Value>,
+) -> Result<Draft, Stop>
     ensures { Runs (spec.show_entry (spec.show_to levels) inside.now o d key m.old) result m.new }
 {
     match key {
@@ -183,7 +253,14 @@ fn show_entry(m: &mut Machine, levels: u32, inside: &[ObjRef], o: ObjRef, d: Dra
 }
 
 #[cycle(show)]
-fn show_item(m: &mut Machine, levels: u32, inside: &[ObjRef], o: ObjRef, d: Draft, key: &Value) -> Result<Draft, Stop>
+fn show_item(
+    m: &mut Machine,
+    levels: u32,
+    inside: &[ObjRef],
+    o: ObjRef,
+    d: Draft,
+    key: &Value,
+) -> Result<Draft, Stop>
     ensures { Runs (spec.show_item (spec.show_to levels) inside.now o d key.now (key_of key.now) m.old) result m.new }
 {
     match key_of(m.alloc, key)? {
@@ -196,7 +273,14 @@ fn show_item(m: &mut Machine, levels: u32, inside: &[ObjRef], o: ObjRef, d: Draf
 }
 
 #[cycle(show)]
-fn show_pair(m: &mut Machine, levels: u32, inside: &[ObjRef], d: Draft, key: &Value, found: Option<Value>) -> Result<Draft, Stop>
+fn show_pair(
+    m: &mut Machine,
+    levels: u32,
+    inside: &[ObjRef],
+    d: Draft,
+    key: &Value,
+    found: Option<Value>,
+) -> Result<Draft, Stop>
     ensures { Runs (spec.show_pair (spec.show_to levels) inside.now d key.now found m.old) result m.new }
 {
     match found {
@@ -212,7 +296,7 @@ fn show_pair(m: &mut Machine, levels: u32, inside: &[ObjRef], d: Draft, key: &Va
 
 // The parts of what `args` of an instance holds, where that is a tuple.
 #[tactic(auto, unfolding(crate::specs::Shown::args_of))]
-fn args_of(m: &mut Machine, o: ObjRef) -> Result<Values, Stop>
+pub(crate) fn args_of(m: &mut Machine, o: ObjRef) -> Result<Values, Stop>
     ensures { Runs (spec.args_of o m.old) result m.new }
 {
     let found = m.load(&Loc::Attr(o, ARGS))?;
@@ -229,7 +313,7 @@ fn tuple_parts(alloc: Global, found: Option<Value>) -> Result<Values, NoMemory>
     }
 }
 
-fn tuple_end(xs: &[Value]) -> &'static str
+pub(crate) fn tuple_end(xs: &[Value]) -> &'static str
     ensures { result.now ≡ spec.tuple_end xs.now }
 {
     match xs {
@@ -258,11 +342,4 @@ fn after(i: usize) -> Result<usize, NoMemory>
     ensures { IfOk result (λ next. next ≡ suc i) }
 {
     i.checked_add(1).ok_or(NoMemory)
-}
-
-/// The text of a value, as `str` gives it.
-pub fn to_str(m: &mut Machine, v: &Value) -> Result<PyText, Stop>
-    ensures { Runs (spec.to_str v.now m.old) result m.new }
-{
-    Err(Stop::NoMemory)
 }
