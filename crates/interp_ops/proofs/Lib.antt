@@ -1,0 +1,3 @@
+mod Leaps
+mod Repeating
+mod UsedLaws
