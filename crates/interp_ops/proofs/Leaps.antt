@@ -18,14 +18,21 @@ sum_times (suc m) n d =
 two_leaps : (a d : ℤ) (h : ℕ) → (a +ℤ pos h *ℤ d) +ℤ pos h *ℤ d ≡ a +ℤ pos (h + h) *ℤ d
 two_leaps a d h = +ℤ_assoc a (pos h *ℤ d) (pos h *ℤ d) ∙ ap (λ z. a +ℤ z) (sym (sum_times h h d))
 
-pub even_member : (a d : ℤ) (i : ℕ) → i % 2 ≡ 0 → (a +ℤ pos (i / 2) *ℤ d) +ℤ pos (i / 2) *ℤ d ≡ a +ℤ pos i *ℤ d
+even_member : (a d : ℤ) (i : ℕ) → i % 2 ≡ 0 → (a +ℤ pos (i / 2) *ℤ d) +ℤ pos (i / 2) *ℤ d ≡ a +ℤ pos i *ℤ d
 even_member a d i even =
     let e : i / 2 + i / 2 ≡ i = omega arith in
     two_leaps a d (i / 2) ∙ ap (λ k. a +ℤ pos k *ℤ d) e
 
-pub odd_member : (a d : ℤ) (i : ℕ) → i % 2 ≢ 0 → ((a +ℤ pos (i / 2) *ℤ d) +ℤ pos (i / 2) *ℤ d) +ℤ d ≡ a +ℤ pos i *ℤ d
+odd_member : (a d : ℤ) (i : ℕ) → i % 2 ≢ 0 → ((a +ℤ pos (i / 2) *ℤ d) +ℤ pos (i / 2) *ℤ d) +ℤ d ≡ a +ℤ pos i *ℤ d
 odd_member a d i odd =
     let e : suc (i / 2 + i / 2) ≡ i = omega arith in
-    let h = i / 2 in
     ap (λ z. z +ℤ d) (two_leaps a d (i / 2)) ∙ +ℤ_assoc a (pos (i / 2 + i / 2) *ℤ d) d
     ∙ ap (λ z. a +ℤ z) (sym (suc_ℤ-*ℤ (pos (i / 2 + i / 2)) d)) ∙ ap (λ k. a +ℤ pos k *ℤ d) e
+
+pub even_from : (a d half leap middle even : ℤ) (i : ℕ) → half ≡ pos (i / 2) → leap ≡ half *ℤ d → middle ≡ a +ℤ leap → even ≡ middle +ℤ leap
+    → i % 2 ≡ 0 → even ≡ a +ℤ pos i *ℤ d
+even_from a d half leap middle even i h l m e zeroth = rw (e, m, l, h) (even_member a d i zeroth)
+
+pub odd_from : (a d half leap middle even : ℤ) (i : ℕ) → half ≡ pos (i / 2) → leap ≡ half *ℤ d → middle ≡ a +ℤ leap → even ≡ middle +ℤ leap
+    → i % 2 ≢ 0 → even +ℤ d ≡ a +ℤ pos i *ℤ d
+odd_from a d half leap middle even i h l m e first = rw (e, m, l, h) (odd_member a d i first)

@@ -39,15 +39,15 @@ pub(crate) fn repeated_values(alloc: Global, xs: &[Value], count: u128) -> Resul
     Shared::from_vec(alloc, all)
 }
 
-/// So many times the same text.
-pub(crate) fn repeated_text(alloc: Global, t: &PyText, count: u128) -> Result<PyText, NoMemory>
+/// So many times the same code points.
+pub(crate) fn repeated_text(alloc: Global, t: &[char], count: u128) -> Result<PyText, NoMemory>
     ensures { IfOk result (λ all. all ≡ repeated count t.now) }
 {
     let mut all = Vec::new(alloc);
     let mut left = turns(t.len(), count);
     while left != 0 {
         left -= 1;
-        all = with_points(all, t.as_slice())?;
+        all = with_points(all, t)?;
     }
     PyText::from_points(alloc, all)
 }
