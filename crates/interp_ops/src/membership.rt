@@ -1,6 +1,7 @@
 // Membership in a text, a dictionary, or what is walked.
 ghost use Rattle.std.specs.Prelude.{◌≡◌, suc};
 ghost use Rattle.heap_objects.specs.Keyed as keyed;
+ghost use Rattle.interp_ops.specs.Equality.{equal};
 ghost use Rattle.interp_ops.specs.Meaning.{Runs};
 ghost use Rattle.interp_ops.specs.Operators as spec;
 
@@ -67,7 +68,7 @@ fn find_equal(m: &mut Machine, v: &Value, walker: Walker) -> Result<bool, Stop>
         rest = after;
         match part {
             Some(x) => {
-                if equal(m, &x, v)? {
+                if part_equal(m, x, v)? {
                     return Ok(true);
                 }
             }
@@ -75,4 +76,10 @@ fn find_equal(m: &mut Machine, v: &Value, walker: Walker) -> Result<bool, Stop>
         }
     }
     Err(Stop::Steps)
+}
+
+fn part_equal(m: &mut Machine, x: Value, v: &Value) -> Result<bool, Stop>
+    ensures { Runs (equal x v.now m.old) result m.new }
+{
+    equal(m, &x, v)
 }

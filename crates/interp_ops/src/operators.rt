@@ -1,5 +1,5 @@
 // Operators of two operands and of one.
-ghost use Rattle.std.specs.Prelude.{◌≡◌, ◌-ℤ◌};
+ghost use Rattle.std.specs.Prelude.{◌≡◌, ◌-ℤ◌, length};
 ghost use Rattle.interp_ops.specs.Making as making;
 ghost use Rattle.interp_ops.specs.Meaning.{Runs, steps};
 ghost use Rattle.interp_ops.specs.Operators as spec;
@@ -179,8 +179,11 @@ fn size_of(n: i128) -> u128
 fn repeat_steps<T>(m: &mut Machine, parts: &[T], count: u128) -> Result<(), Stop>
     ensures { Runs (steps (length (spec.repeated count parts.now)) m.old) result m.new }
 {
-    let total = (parts.len() as u128).saturating_mul(count);
-    m.steps(total)
+    let left = m.left as u128;
+    match (parts.len() as u128).checked_mul(count) {
+        Some(total) => m.steps(total),
+        None => m.steps(left + 1),
+    }
 }
 
 // A number, the end of the run where it is outside those of 128 bits, or ZeroDivisionError.
