@@ -1,3 +1,7 @@
+mod FoundLaws
+mod Leaps
 mod RangeLaws
+mod Repeating
 pub mod RunsLaws
+mod UsedLaws
 pub mod WalkLaws

@@ -62,6 +62,11 @@ abbrev pub repeated : {A : Type 0} → ℕ → List A → List A
 repeated zero xs = []
 repeated (suc n) xs = xs ++ repeated n xs
 
+-- how many turns that takes for a list of a length: an empty one takes none
+abbrev pub turns : ℕ → ℕ → ℕ
+turns zero n = 0
+turns (suc len) n = n
+
 abbrev pub product_of : Product → M Value
 product_of (p.Numbers x y) = answered (exact (x *ℤ y))
 product_of (p.Text t n) = make_text (repeated (size_of n) t)
