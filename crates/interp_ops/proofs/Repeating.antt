@@ -1,6 +1,9 @@
 -- Lists that are repeated.
 use Rattle.std.proofs.Common.{◌≡◌, ◌≢◌, ◌+◌, ◌-◌, ◌*◌, ◌++◌, ℕ, zero, suc, List, [], ◌∷◌, length, ap, sym, refl, ◌∙◌, append_assoc, arith, length-append}
+use Rattle.std.specs.Prelude.{◌<◌, nat_le, false}
+use Rattle.interp_ops.specs.Meaning.{steps}
 use Rattle.interp_ops.specs.Operators.{repeated, turns}
+use Rattle.interp_ops.specs.declared.machine.Machine.{Machine}
 
 pub repeated_none : {A : Type 0} (n : ℕ) (xs : List A) → length xs ≡ 0 → repeated n xs ≡ []
 repeated_none zero xs none = refl
@@ -22,3 +25,11 @@ length-repeated zero xs = omega arith
 length-repeated (suc n) xs =
     let e = length-repeated n xs in
     length-append xs (repeated n xs) ∙ ap (λ k. length xs + k) e ∙ grind arith
+
+-- both counts are more than the steps that are left
+pub steps_past : (a b : ℕ) (m : Machine) → m.left < a → m.left < b → steps a m ≡ steps b m
+unfolding steps
+steps_past a b m p q =
+    let x : nat_le a m.left ≡ false = grind arith in
+    let y : nat_le b m.left ≡ false = grind arith in
+    rw (x, y) refl
