@@ -1,5 +1,5 @@
 -- The search for an equal part, turn by turn.
-use Rattle.std.proofs.Common.{◌≡◌, ◌≢◌, ◌-◌, ℕ, zero, suc, Bool, true, false, Some, Ok, Err, refl, arith}
+use Rattle.std.proofs.Common.{◌≡◌, ◌≢◌, ◌-◌, ℕ, zero, suc, true, false, Some, Ok, Err, refl, arith}
 use Rattle.heap_objects.specs.declared.value.Value.{Value}
 use Rattle.interp_ops.specs.Equality.{equal}
 use Rattle.interp_ops.specs.Operators.{found_from}

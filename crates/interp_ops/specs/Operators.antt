@@ -1,5 +1,5 @@
 -- Arithmetic operators, joining and repeating, and membership.
-use Rattle.std.specs.Prelude.{◌++◌, ◌+ℤ◌, ◌-ℤ◌, ◌*ℤ◌, neg_ℤ, ℕ, zero, suc, ℤ, pos, negsuc, Bool, true, false, List, [], ◌∷◌, length, Option, Some, None, is_some, Result, Ok, Err}
+use Rattle.std.specs.Prelude.{◌++◌, ◌+ℤ◌, ◌-ℤ◌, ◌*ℤ◌, neg_ℤ, ℕ, zero, suc, ℤ, pos, negsuc, Bool, true, false, List, [], length, Option, Some, None, is_some, Result, Ok, Err}
 use Rattle.std.specs.Int.{int_pow}
 use Rattle.exceptions_core.specs.declared.error.FaultKind.TheVariants as error
 use Rattle.flow_base.specs.declared.key.Key.{Key}

@@ -1,5 +1,5 @@
 -- Items of values: read, stored and deleted.
-use Rattle.std.specs.Prelude.{◌-◌, ◌+◌, ◌+ℤ◌, ◌*ℤ◌, ◌++◌, ℕ, zero, suc, ℤ, pos, negsuc, Bool, true, false, nat_lt, List, [], ◌∷◌, length, drop, Option, Some, None, option_map, slice_get, if◌then◌else◌}
+use Rattle.std.specs.Prelude.{◌-◌, ◌+ℤ◌, ◌*ℤ◌, ◌++◌, ℕ, zero, suc, ℤ, pos, negsuc, Bool, true, false, nat_lt, List, [], ◌∷◌, length, drop, Option, Some, None, option_map, slice_get, if◌then◌else◌}
 use Rattle.exceptions_core.specs.declared.class.ExcClass.TheVariants.{KeyError}
 use Rattle.exceptions_core.specs.declared.error.FaultKind.TheVariants as error
 use Rattle.flow_base.specs.declared.event.ReadHow.{ReadHow}
@@ -16,7 +16,7 @@ use Rattle.interp_ops.specs.Kinds.{kind}
 use Rattle.interp_ops.specs.Meaning.{M, ◌>>=◌, ◌>>◌, pure, dict_put, dict_remove, error_with, fault, list_put, list_splice, load, present, raise, shape, steps}
 use Rattle.interp_ops.specs.Walks.{int_value, point_value, range_size}
 use Rattle.interp_ops.specs.declared.kinds.Kind.{Kind}
-use Rattle.interp_ops.specs.declared.kinds.Kind.TheVariants.{Nil, Number, Text, Tuple, Range, List as AList, Dict, Instance, Class, Other}
+use Rattle.interp_ops.specs.declared.kinds.Kind.TheVariants.{Text, Tuple, Range, List as AList, Dict}
 
 -- ---- places
 

@@ -7,11 +7,7 @@ use heap_objects::{Value, Values};
 use std::alloc::Global;
 
 /// Some values with others behind them.
-pub(crate) fn joined_values(
-    alloc: Global,
-    xs: &[Value],
-    ys: &[Value],
-) -> Result<Values, NoMemory>
+pub(crate) fn joined_values(alloc: Global, xs: &[Value], ys: &[Value]) -> Result<Values, NoMemory>
     ensures { IfOk result (λ all. all ≡ xs.now ++ ys.now) }
 {
     let begun = with_values(Vec::new(alloc), xs)?;

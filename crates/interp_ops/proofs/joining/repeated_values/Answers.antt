@@ -1,4 +1,4 @@
-use Rattle.std.proofs.Common.{◌≡◌, ◌≢◌, ◌∙◌, rules, arith, length}
+use Rattle.std.proofs.Common.{◌≢◌, ◌∙◌, rules, arith}
 use Rattle.interp_ops.proofs.Repeating.{repeated_more, repeated_turns}
 use Rattle.interp_ops.proofs.joining.repeated_values.Goals as goal
 

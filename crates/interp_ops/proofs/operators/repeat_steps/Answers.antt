@@ -1,4 +1,4 @@
-use Rattle.std.proofs.Common.{◌≡◌, ◌∙◌, ◌<◌, ◌+◌, ◌≤◌, ◌*◌, ◌^◌, rules, arith, length, ap}
+use Rattle.std.proofs.Common.{◌≡◌, ◌<◌, ◌+◌, ◌≤◌, ◌*◌, ◌^◌, rules, arith, length, ap}
 use Rattle.interp_ops.specs.Meaning.{steps}
 use Rattle.interp_ops.specs.Operators.{repeated}
 use Rattle.interp_ops.proofs.Repeating.{length-repeated, steps_past}

@@ -1,4 +1,4 @@
-use Rattle.std.proofs.Common.{◌≡◌, ◌∙◌, ℕ, rules, arith, SFits}
+use Rattle.std.proofs.Common.{◌∙◌, rules, arith, SFits}
 use Rattle.std.proofs.lemmas.Int.{to_z-of_z}
 use mir.Syntax.{w128}
 use Rattle.interp_ops.proofs.Leaps.{even_from, odd_from}
