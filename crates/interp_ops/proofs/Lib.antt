@@ -1,1 +1,8 @@
-pub mod ShownLaws
+mod FoundLaws
+mod Leaps
+mod RangeLaws
+mod Repeating
+pub mod RunsLaws
+mod ShownLaws
+mod UsedLaws
+pub mod WalkLaws

@@ -56,6 +56,15 @@ exception_of s class = exception_at (exception_above s (length s.nodes)) s (out-
 
 -- ---- lookups
 
+-- a function found in a class becomes a bound method of the instance
+abbrev pub bound_if : ObjRef → Value → ObjRef → Option Object → Value
+bound_if receiver x f (Some (object.Function name code defaults parent)) = roll-Value (v.Bound f receiver)
+bound_if receiver x f _ = x
+
+abbrev pub bound_at : ObjRef → Value → Value-F Value → M Value
+bound_at receiver x (v.Obj f) = fixed f >>= λ o. pure (bound_if receiver x f o)
+bound_at receiver x _ = pure x
+
 module _ (a : Sym) where
   abbrev pub found_or : (Option Value → M (Option Value)) → ObjRef → Option Value → M (Option Value)
   found_or above c (Some x) = pure (Some x)
@@ -78,15 +87,6 @@ module _ (a : Sym) where
   or_missing (Some x) = pure x
   or_missing None = fault_named error.Attribute a
 
-  abbrev pub bound_if : ObjRef → Value → ObjRef → Option Object → Value
-  bound_if receiver x f (Some (object.Function name code defaults parent)) = roll-Value (v.Bound f receiver)
-  bound_if receiver x f _ = x
-
-  abbrev pub bound_at : ObjRef → Value → Value-F Value → M Value
-  bound_at receiver x (v.Obj f) = fixed f >>= λ o. pure (bound_if receiver x f o)
-  bound_at receiver x _ = pure x
-
-  -- a function found in a class becomes a bound method of the instance
   abbrev pub bind : ObjRef → Option Value → M Value
   bind receiver None = fault_named error.Attribute a
   bind receiver (Some x) = bound_at receiver x (out-Value x)

@@ -20,10 +20,17 @@ use Rattle.heap_objects.specs.declared.object.Object.{Object}
 use Rattle.heap_objects.specs.declared.value.TheConstants.{NESTING_LIMIT}
 use Rattle.heap_objects.specs.declared.value.Value.{Value, roll-Value}
 use Rattle.heap_objects.specs.declared.value.Value.TheOpen as v
-use Rattle.interp_ops.specs.Symbols.{args_symbol, class_symbol, text_of}
+use Rattle.interp_ops.specs.Symbols.{args_symbol, class_symbol, known_texts, text_of}
+use Rattle.std.specs.declared.alloc.Global.{Global}
 use Rattle.interp_ops.specs.declared.machine.Machine.{Machine}
 use Rattle.interp_ops.specs.declared.stop.Stop.{Stop}
 use Rattle.interp_ops.specs.declared.stop.Stop.TheVariants as stop
+
+-- ---- the machine
+
+-- before every run
+abbrev pub start : Global → Machine
+start alloc = record { alloc = alloc; heap = state.start; names = known_texts; left = 0; depth = 0; out = [] }
 
 -- ---- what an operation means
 

@@ -1,5 +1,5 @@
 -- Walks over the parts of values.
-use Rattle.std.specs.Prelude.{◌==◌, ◌++◌, ◌+ℤ◌, ℕ, zero, suc, ℤ, pos, negsuc, Bool, true, false, List, [], ◌∷◌, Option, Some, None, option_map, slice_get, if◌then◌else◌}
+use Rattle.std.specs.Prelude.{◌==◌, ◌-◌, ◌++◌, ◌+ℤ◌, ℕ, zero, suc, ℤ, pos, negsuc, Bool, true, false, List, [], ◌∷◌, Option, Some, None, option_map, slice_get, if◌then◌else◌}
 use Rattle.exceptions_core.specs.declared.error.FaultKind.TheVariants as error
 use Rattle.flow_base.specs.declared.event.ReadHow.TheVariants.{Use}
 use Rattle.heap_objects.specs.State.{item}
@@ -39,13 +39,16 @@ member_after a step (suc n) = a +ℤ step
 -- ---- one part after another
 
 -- a part, where there is one, costs a step
-abbrev pub counted : Option Value → Walker → M (Option Value × Walker)
+unfoldable pub counted : Option Value → Walker → M (Option Value × Walker)
 counted None after = pure (None, after)
 counted (Some x) after = steps 1 >> pure (Some x, after)
 
-abbrev pub member : ℤ → ℤ → ℕ → M (Option Value × Walker)
-member a step zero = pure (None, Range a step 0)
-member a step (suc n) = counted (Some (int_value a)) (Range (member_after a step n) step n)
+-- a member of a range that is followed by so many
+unfoldable pub some_member : ℤ → ℤ → ℕ → M (Option Value × Walker)
+some_member a step n = counted (Some (int_value a)) (Range (member_after a step n) step n)
+
+unfoldable pub member : ℤ → ℤ → ℕ → M (Option Value × Walker)
+member a step n = if n == 0 then pure (None, Range a step 0) else some_member a step (n - 1)
 
 abbrev pub next_of : Walker → M (Option Value × Walker)
 next_of (Items o i) = load (item o i) >>= λ x. counted x (Items o (suc i))

@@ -6,6 +6,7 @@ ghost use Rattle.interp_ops.specs.Meaning as spec;
 ghost use Rattle.interp_ops.specs.Meaning.{Runs};
 
 use crate::stop::Stop;
+use crate::symbols::fresh_names;
 use flow_base::{Event, Key, Loc, Names, NoMemory, ObjRef, PyText, ReadHow};
 use heap_objects::{Heap, Object, Value, Values};
 use std::alloc::Global;
@@ -26,6 +27,20 @@ pub struct Machine {
 }
 
 impl Machine {
+    /// The machine before every run: the global frame alone, and the names that every table begins with.
+    pub fn new(alloc: Global) -> Result<Machine, NoMemory>
+        ensures { IfOk result (λ m. m ≡ spec.start m.alloc) }
+    {
+        Ok(Machine {
+            alloc,
+            heap: Heap::new(alloc)?,
+            names: fresh_names(alloc)?,
+            left: 0,
+            depth: 0,
+            out: PyText::from_points(alloc, Vec::new(alloc))?,
+        })
+    }
+
     /// Takes so many steps; where fewer are left, all that are left, and the run ends.
     #[tactic(auto, unfolding(crate::specs::Meaning::steps))]
     pub fn steps(&mut self, n: u128) -> Result<(), Stop>

@@ -1,5 +1,5 @@
 // The texts of values.
-ghost use Rattle.std.specs.Prelude.{◌≡◌, ◌∷◌, ◌++◌, IfOk, false, suc};
+ghost use Rattle.std.specs.Prelude.{◌≡◌, ◌∷◌, ◌++◌, IfOk, false};
 ghost use Rattle.heap_objects.specs.Keyed.{key_of};
 ghost use Rattle.interp_ops.specs.Meaning.{Runs};
 ghost use Rattle.interp_ops.specs.Shown as spec;
@@ -11,7 +11,7 @@ use crate::forms::{Form, form_of};
 use crate::machine::{MAX_DEPTH, Machine};
 use crate::stop::Stop;
 use crate::symbols::ARGS;
-use crate::walks::{Walker, next};
+use crate::walks::{Walker, after, next};
 use exceptions_core::FaultKind;
 use flow_base::{Loc, NoMemory, ObjRef, PyText, ReadHow, Shared};
 use heap_objects::{Value, Values, key_of};
@@ -335,11 +335,4 @@ fn with_object(alloc: Global, o: ObjRef, inside: &[ObjRef]) -> Result<Vec<ObjRef
     objects.push(o)?;
     objects.extend_from_slice(inside)?;
     Ok(objects)
-}
-
-// The place after one. Want of memory stands for a place that no dictionary has.
-fn after(i: usize) -> Result<usize, NoMemory>
-    ensures { IfOk result (λ next. next ≡ suc i) }
-{
-    i.checked_add(1).ok_or(NoMemory)
 }

@@ -1,6 +1,7 @@
 // Walks over the parts of values.
-ghost use Rattle.std.specs.Prelude.{◌≡◌, IfOk, option_map, slice_get, suc};
+ghost use Rattle.std.specs.Prelude.{◌≡◌, ◌<◌, ◌-ℤ◌, IfOk, option_map, pos, slice_get, suc};
 ghost use Rattle.heap_objects.specs.State as state;
+ghost use Rattle.heap_objects.specs.WellFormed.{steps_in};
 ghost use Rattle.interp_ops.specs.Meaning.{Runs};
 ghost use Rattle.interp_ops.specs.Walks as spec;
 
@@ -72,17 +73,37 @@ pub fn next(m: &mut Machine, walker: Walker) -> Result<(Option<Value>, Walker), 
             let found = point_at(m.alloc, &t, i)?;
             counted(m, found, Walker::Points(t, after(i)?))
         }
-        Walker::Range(a, step, left) => {
-            if left == 0 {
-                return Ok((None, Walker::Range(a, step, 0)));
-            }
-            let next = member_after(a, step, left - 1)?;
-            counted(m, Some(Value::Int(a)), Walker::Range(next, step, left - 1))
-        }
+        Walker::Range(a, step, left) => member(m, a, step, left),
     }
 }
 
+// A member of a range that is followed by all but one of so many, if there is one.
+#[tactic(auto, unfolding(crate::specs::Walks::member))]
+fn member(m: &mut Machine, a: i128, step: i128, left: u128) -> Result<(Option<Value>, Walker), Stop>
+    ensures { Runs (spec.member a step left m.old) result m.new }
+{
+    if left == 0 {
+        return Ok((None, Walker::Range(a, step, 0)));
+    }
+    some_member(m, a, step, left - 1)
+}
+
+// A member of a range that is followed by so many.
+#[tactic(auto, unfolding(crate::specs::Walks::some_member))]
+fn some_member(
+    m: &mut Machine,
+    a: i128,
+    step: i128,
+    rest: u128,
+) -> Result<(Option<Value>, Walker), Stop>
+    ensures { Runs (spec.some_member a step rest m.old) result m.new }
+{
+    let next = member_after(a, step, rest)?;
+    counted(m, Some(Value::Int(a)), Walker::Range(next, step, rest))
+}
+
 // A part, where there is one, costs a step.
+#[tactic(auto, unfolding(crate::specs::Walks::counted))]
 fn counted(
     m: &mut Machine,
     found: Option<Value>,
@@ -99,8 +120,8 @@ fn counted(
     }
 }
 
-// The place after one. Want of memory stands for a place that no list has.
-fn after(i: usize) -> Result<usize, NoMemory>
+/// The place after one. Want of memory stands for a place that no list has.
+pub(crate) fn after(i: usize) -> Result<usize, NoMemory>
     ensures { IfOk result (λ next. next ≡ suc i) }
 {
     i.checked_add(1).ok_or(NoMemory)
@@ -156,13 +177,25 @@ fn member_after(a: i128, step: i128, left: u128) -> Result<i128, NoMemory>
 pub fn range_size(start: i128, stop: i128, step: i128) -> u128
     ensures { result ≡ spec.range_size start stop step }
 {
-    if step > 0 && stop > start {
-        return (stop.abs_diff(start) - 1) / step as u128 + 1;
+    if step > 0 {
+        return steps_in(start, stop, step.unsigned_abs());
     }
-    if step < 0 && start > stop {
-        return (start.abs_diff(stop) - 1) / step.unsigned_abs() + 1;
+    if step < 0 {
+        return steps_in(stop, start, step.unsigned_abs());
     }
     0
+}
+
+// How many steps of a length begin between two places.
+fn steps_in(from: i128, to: i128, step: u128) -> u128
+    requires { 0 < step }
+    ensures { result ≡ spec.size_of (steps_in (to -ℤ from) (pos step)) }
+{
+    if to > from {
+        (to.abs_diff(from) - 1) / step + 1
+    } else {
+        0
+    }
 }
 
 /// The parts that are left of a walk.
