@@ -1,3 +1,4 @@
+pub mod EqualLaws
 mod RangeLaws
 pub mod RunsLaws
 pub mod WalkLaws
