@@ -152,7 +152,11 @@ pub(crate) fn lengths(m: &mut Machine, pair: &Pair) -> Result<(usize, usize), St
 }
 
 /// What stands at a place of both, for a step; items of lists are used.
-pub(crate) fn sides(m: &mut Machine, pair: &Pair, i: usize) -> Result<(Option<Value>, Option<Value>), Stop>
+pub(crate) fn sides(
+    m: &mut Machine,
+    pair: &Pair,
+    i: usize,
+) -> Result<(Option<Value>, Option<Value>), Stop>
     ensures { Runs (spec.sides pair.now i m.old) result m.new }
 {
     match pair {
@@ -252,7 +256,13 @@ fn equal_dicts(m: &mut Machine, levels: u32, d: ObjRef, e: ObjRef) -> Result<boo
 
 // Whether so many keys of the first, from its first on, have equal values in both.
 #[cycle(equal)]
-fn equal_entries(m: &mut Machine, levels: u32, d: ObjRef, e: ObjRef, count: usize) -> Result<bool, Stop>
+fn equal_entries(
+    m: &mut Machine,
+    levels: u32,
+    d: ObjRef,
+    e: ObjRef,
+    count: usize,
+) -> Result<bool, Stop>
     ensures { Runs (spec.all_from (spec.equal_place (spec.equal_below levels) d e) 0 count m.old) result m.new }
 {
     let mut left = count;
@@ -289,7 +299,13 @@ fn key_there(m: &Machine, d: ObjRef, i: usize) -> Result<Option<Key>, NoMemory>
 }
 
 #[cycle(equal)]
-fn equal_entry(m: &mut Machine, levels: u32, d: ObjRef, e: ObjRef, key: Option<Key>) -> Result<bool, Stop>
+fn equal_entry(
+    m: &mut Machine,
+    levels: u32,
+    d: ObjRef,
+    e: ObjRef,
+    key: Option<Key>,
+) -> Result<bool, Stop>
     ensures { Runs (spec.equal_entry (spec.equal_below levels) d e key m.old) result m.new }
 {
     match key {

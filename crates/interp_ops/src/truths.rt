@@ -66,7 +66,9 @@ pub fn identical(a: &Value, b: &Value) -> bool
             _ => false,
         },
         Value::Range(start, stop, step) => match b {
-            Value::Range(first, end, stride) => *start == *first && *stop == *end && *step == *stride,
+            Value::Range(first, end, stride) => *start == *first
+                && *stop == *end
+                && *step == *stride,
             _ => false,
         },
         Value::Builtin(f) => match b {

@@ -40,16 +40,18 @@ decreases-equal_with l = l.levels * 16 + 8
 
 abbrev pub invariant-equal_from-loop-left : goal.invariant-equal_from-loop-left
 invariant-equal_from-loop-left l = record {
-    meaning : all_from (equal_sides (equal_below l.levels) l.pair) 0 l.count l.fn.m ≡ all_from (equal_sides (equal_below l.levels) l.pair) l.at l.left l.m;
-    ends : l.at + l.left ≡ l.count }
+  meaning : all_from (equal_sides (equal_below l.levels) l.pair) 0 l.count l.fn.m ≡ all_from (equal_sides (equal_below l.levels) l.pair) l.at l.left l.m;
+  ends : l.at + l.left ≡ l.count;
+}
 
 abbrev pub decreases-equal_from-loop-left : goal.decreases-equal_from-loop-left
 decreases-equal_from-loop-left l = l.left
 
 abbrev pub invariant-equal_entries-loop-left : goal.invariant-equal_entries-loop-left
 invariant-equal_entries-loop-left l = record {
-    meaning : all_from (equal_place (equal_below l.levels) l.d l.e) 0 l.count l.fn.m ≡ all_from (equal_place (equal_below l.levels) l.d l.e) l.at l.left l.m;
-    ends : l.at + l.left ≡ l.count }
+  meaning : all_from (equal_place (equal_below l.levels) l.d l.e) 0 l.count l.fn.m ≡ all_from (equal_place (equal_below l.levels) l.d l.e) l.at l.left l.m;
+  ends : l.at + l.left ≡ l.count;
+}
 
 abbrev pub decreases-equal_entries-loop-left : goal.decreases-equal_entries-loop-left
 decreases-equal_entries-loop-left l = l.left
