@@ -1,3 +1,4 @@
+pub mod EqualLaws
 mod FoundLaws
 mod Leaps
 mod RangeLaws

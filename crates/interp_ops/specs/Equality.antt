@@ -74,19 +74,26 @@ abbrev pub and_then : M Bool → Bool → M Bool
 and_then more true = more
 and_then more false = pure false
 
+-- so many tests from a place on; the first that fails ends them
+unfoldable pub all_from : (ℕ → M Bool) → ℕ → ℕ → M Bool
+all_from test i zero = pure true
+all_from test i (suc n) = test i >>= and_then (all_from test (suc i) n)
+
 -- the key of a value that is there
 abbrev pub key_if : Option Value → Option Key
 key_if None = None
 key_if (Some x) = key_of x
 
 module _ (below : Value → Value → M Bool) where
-  -- so many pairs from a place on are equal; the first that is not ends the test
-  abbrev pub equal_from : Pair → ℕ → ℕ → M Bool
-  equal_from s i zero = pure true
-  equal_from s i (suc n) = sides s i >>= both below >>= and_then (equal_from s (suc i) n)
+  -- what stands at a place of both is equal
+  abbrev pub equal_sides : Pair → ℕ → M Bool
+  equal_sides s i = sides s i >>= both below
 
   abbrev pub equal_sequences : Pair → ℕ × ℕ → M Bool
-  equal_sequences s counts = if counts.0 == counts.1 then equal_from s 0 counts.0 else pure false
+  equal_sequences s counts = if counts.0 == counts.1 then all_from (equal_sides s) 0 counts.0 else pure false
+
+  abbrev pub equal_parts : Pair → M Bool
+  equal_parts s = lengths s >>= equal_sequences s
 
   -- both dictionaries have an equal value at the key, whose presence in the second is used first
   abbrev pub equal_at : ObjRef → ObjRef → Key → Bool → M Bool
@@ -97,30 +104,33 @@ module _ (below : Value → Value → M Bool) where
   equal_entry d e None = pure false
   equal_entry d e (Some k) = present e k >>= equal_at d e k
 
-  -- so many keys of the first dictionary, from a place on, have equal values in both, with a step each
-  abbrev pub equal_entries : ObjRef → ObjRef → ℕ → ℕ → M Bool
-  equal_entries d e i zero = pure true
-  equal_entries d e i (suc n) = steps 1 >> (key_at d i >>= λ x. equal_entry d e (key_if x) >>= and_then (equal_entries d e (suc i) n))
+  -- the key at a place of the first dictionary has an equal value in both, for a step
+  abbrev pub equal_place : ObjRef → ObjRef → ℕ → M Bool
+  equal_place d e i = steps 1 >> (key_at d i >>= λ x. equal_entry d e (key_if x))
 
-  abbrev pub equal_dicts : ObjRef → ObjRef → ℕ → ℕ → M Bool
-  equal_dicts d e m n = if m == n then equal_entries d e 0 m else pure false
+  abbrev pub equal_counts : ObjRef → ObjRef → ℕ → ℕ → M Bool
+  equal_counts d e m n = if m == n then all_from (equal_place d e) 0 m else pure false
+
+  -- the shapes of both are used
+  abbrev pub equal_dicts : ObjRef → ObjRef → M Bool
+  equal_dicts d e = shape Use d >>= λ m. shape Use e >>= λ n. equal_counts d e m n
 
   abbrev pub equal_pair : Value → Value → Pair → M Bool
   equal_pair a b (Numbers x y) = pure (int_eq x y)
   equal_pair a b (Texts s t) = pure (bytes_eq s t)
-  equal_pair a b (Tuples xs ys) = lengths (Tuples xs ys) >>= equal_sequences (Tuples xs ys)
-  equal_pair a b (Lists o p) = if o.0 == p.0 then pure true else lengths (Lists o p) >>= equal_sequences (Lists o p)
-  equal_pair a b (Dicts d e) = if d.0 == e.0 then pure true else shape Use d >>= λ m. shape Use e >>= λ n. equal_dicts d e m n
+  equal_pair a b (Tuples xs ys) = equal_parts (Tuples xs ys)
+  equal_pair a b (Lists o p) = if o.0 == p.0 then pure true else equal_parts (Lists o p)
+  equal_pair a b (Dicts d e) = if d.0 == e.0 then pure true else equal_dicts d e
   equal_pair a b Others = pure (alike a b)
 
   unfoldable pub equal_with : Value → Value → M Bool
   equal_with a b = pair a b >>= equal_pair a b
 
--- with so many levels left below this one; each level below the first counts as one that is open
-unfoldable pub equal_to : ℕ → Value → Value → M Bool
-equal_to zero a b = equal_with (λ x y. fault error.Depth) a b
-equal_to (suc n) a b = equal_with (equal_to n) a b
+-- with so many levels left, of which this takes one
+unfoldable pub equal_below : ℕ → Value → Value → M Bool
+equal_below zero a b = fault error.Depth
+equal_below (suc n) a b = equal_with (equal_below n) a b
 
--- `a == b`
+-- `a == b`; each level below the first counts as one that is open
 unfoldable pub equal : Value → Value → M Bool
-equal a b m = equal_to (levels_left m) a b m
+equal a b m = equal_with (equal_below (levels_left m)) a b m

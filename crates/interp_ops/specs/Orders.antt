@@ -8,7 +8,7 @@ use Rattle.exceptions_core.specs.declared.error.FaultKind.TheVariants as error
 use Rattle.heap_objects.specs.Tree as tree
 use Rattle.heap_objects.specs.Tree.{Tree, Trees, none, more, tree_of}
 use Rattle.heap_objects.specs.declared.value.Value.{Value}
-use Rattle.interp_ops.specs.Equality.{both, equal_to, lengths, levels_left, sides}
+use Rattle.interp_ops.specs.Equality.{both, equal_below, lengths, levels_left, sides}
 use Rattle.interp_ops.specs.Kinds.{pair}
 use Rattle.interp_ops.specs.Meaning.{M, ◌>>=◌, pure, fault}
 use Rattle.interp_ops.specs.declared.kinds.Pair.{Pair}
@@ -54,21 +54,18 @@ module _ (equal_below less_below : Value → Value → M Bool) where
   unfoldable pub less_with : Bool → Value → Value → M Bool
   less_with same a b = pair a b >>= less_pair same
 
-abbrev pub too_deep : Value → Value → M Bool
-too_deep x y = fault error.Depth
-
--- with so many levels left below this one
-unfoldable pub less_to : ℕ → Bool → Value → Value → M Bool
-less_to zero same a b = less_with too_deep too_deep same a b
-less_to (suc n) same a b = less_with (equal_to n) (less_to n false) same a b
+-- with so many levels left, of which this takes one
+unfoldable pub less_below : ℕ → Value → Value → M Bool
+less_below zero a b = fault error.Depth
+less_below (suc n) a b = less_with (equal_below n) (less_below n) false a b
 
 -- `a < b`
 unfoldable pub less : Value → Value → M Bool
-less a b m = less_to (levels_left m) false a b m
+less a b m = less_with (equal_below (levels_left m)) (less_below (levels_left m)) false a b m
 
 -- `a <= b`
 unfoldable pub less_or_equal : Value → Value → M Bool
-less_or_equal a b m = less_to (levels_left m) true a b m
+less_or_equal a b m = less_with (equal_below (levels_left m)) (less_below (levels_left m)) true a b m
 
 -- ---- which values are sorted together
 
