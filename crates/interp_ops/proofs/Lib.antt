@@ -1,5 +1,8 @@
 pub mod EqualLaws
 mod FoundLaws
+pub mod Kept
+pub mod KeptTexts
+pub mod LaterLaws
 mod Leaps
 mod RangeLaws
 mod Repeating

@@ -1,5 +1,5 @@
 -- Attributes of values.
-use Rattle.std.specs.Prelude.{◌==◌, ℕ, zero, suc, Bool, true, false, nat_le, List, [], ◌∷◌, length, Option, Some, None, if◌then◌else◌}
+use Rattle.std.specs.Prelude.{ℕ, zero, suc, Bool, true, false, nat_le, length, Option, Some, None, if◌then◌else◌}
 use Rattle.exceptions_core.specs.declared.class.ExcClass.{ExcClass}
 use Rattle.exceptions_core.specs.declared.error.FaultKind.TheVariants as error
 use Rattle.flow_base.specs.declared.loc.Loc.TheVariants as loc
@@ -18,7 +18,6 @@ use Rattle.interp_ops.specs.Meaning.{M, ◌>>=◌, pure, fault, fault_named, fix
 use Rattle.interp_ops.specs.Symbols.{class_of_symbol, dict_methods, is_among, list_methods, text_methods, tuple_methods}
 use Rattle.interp_ops.specs.declared.kinds.Kind.{Kind}
 use Rattle.interp_ops.specs.declared.kinds.Kind.TheVariants as k
-use Rattle.interp_ops.specs.declared.machine.Machine.{Machine}
 
 -- ---- classes and the classes above them
 
