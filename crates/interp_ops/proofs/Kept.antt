@@ -1,5 +1,5 @@
 -- What each primitive operation keeps of a machine, each operation keeps.
-use Rattle.std.proofs.Common.{ℕ, zero, suc, ℤ, pos, negsuc, Bool, true, false, cond, List, [], length, Option, Some, None, Result, Ok, Err}
+use Rattle.std.proofs.Common.{◌≡◌, ℕ, zero, suc, ℤ, pos, negsuc, Bool, true, false, cond, List, [], length, Option, Some, None, Result, Ok, Err, refl}
 use Rattle.exceptions_core.specs.declared.class.ExcClass.{ExcClass}
 use Rattle.exceptions_core.specs.declared.error.FaultKind.{FaultKind}
 use Rattle.exceptions_core.specs.declared.error.FaultKind.TheVariants as error
@@ -15,7 +15,7 @@ use Rattle.interp_ops.specs.Equality as eq
 use Rattle.interp_ops.specs.Kinds.{kind, pair}
 use Rattle.interp_ops.specs.Lookups as look
 use Rattle.interp_ops.specs.Making.{make_dict, make_list, make_text, make_tuple, tuple}
-use Rattle.interp_ops.specs.Meaning.{M, go_on, ◌>>=◌, pure, stop_with, steps, fixed, load, present, shape, key_at, store, list_put, list_splice, dict_put, dict_remove, new_list, new_dict, new_instance, raise, give_args, new_error, error_of, error_with, fault, fault_named}
+use Rattle.interp_ops.specs.Meaning.{M, go_on, ◌>>=◌, pure, stop_with, steps, fixed, load, present, shape, key_at, store, list_put, list_splice, dict_put, dict_remove, new_list, new_dict, new_instance, raise, object_value, give_args, new_error, error_of, error_with, fault, fault_named}
 use Rattle.interp_ops.specs.Operators as ops
 use Rattle.interp_ops.specs.Orders as ord
 use Rattle.interp_ops.specs.Shown as shown
@@ -38,84 +38,130 @@ use Rattle.interp_ops.specs.declared.walks.Walker.TheVariants as w
 use Rattle.py_scalars.specs.declared.numbers.NumFault.{NumFault}
 use Rattle.py_scalars.specs.declared.numbers.NumFault.TheVariants.{ZeroDiv, Range}
 
-module _ (I : Machine → Type 0) where
+-- G m v says of a value that is raised in a machine what is to hold of it.
+module _ (I : Machine → Type 0) (G : Machine → Value → Type 0) where
+  abbrev pub Raises : {A : Type 0} → Result A Stop → Machine → Type 0
+  Raises (Ok a) m = Unit {0}
+  Raises (Err (stop.Raised v)) m = G m v
+  Raises (Err stop.Steps) m = Unit {0}
+  Raises (Err stop.Range) m = Unit {0}
+  Raises (Err stop.NoMemory) m = Unit {0}
+
   pub record Kept {A : Type 0} (p : M A) : Type 0 where
     pub kept : (m : Machine) → I m → I (p m).1
+    pub raises : (m : Machine) → I m → Raises (p m).0 (p m).1
 
-  pub record Primitives : Type 0 where
+  -- an object is made that may be raised
+  pub record Makes (p : M ObjRef) : Type 0 where
+    pub made : Kept p
+    pub good : (m : Machine) → I m → (o : ObjRef) → (p m).0 ≡ Ok o → G (p m).1 (object_value o)
+
+  pub record Reads : Type 0 where
     pub steps_kept : (n : ℕ) → Kept (steps n)
     pub load_kept : (l : Loc) → Kept (load l)
     pub present_kept : (d : ObjRef) (k : Key) → Kept (present d k)
     pub shape_kept : (how : ReadHow) (o : ObjRef) → Kept (shape how o)
-    pub store_kept : (l : Loc) (x : Option Value) → Kept (store l x)
+    pub error_of_made : (what : FaultKind) (name : List ℕ) → Makes (error_of what name)
+
+  pub record Writes : Type 0 where
     pub list_put_kept : (o : ObjRef) (i : ℕ) (x : Value) → Kept (list_put o i x)
     pub list_splice_kept : (o : ObjRef) (i : ℕ) (tail : List Value) → Kept (list_splice o i tail)
     pub dict_put_kept : (d : ObjRef) (k x : Value) → Kept (dict_put d k x)
     pub dict_remove_kept : (d : ObjRef) (k : Key) → Kept (dict_remove d k)
     pub new_list_kept : (items : List Value) → Kept (new_list items)
     pub new_dict_kept : (keys values : List Value) → Kept (new_dict keys values)
-    pub new_instance_kept : (class : Value) → Kept (new_instance class)
+    pub error_with_made : (c : ExcClass) (x : Value) → Makes (error_with c x)
 
   pub kept-pure : {A : Type 0} (a : A) → Kept (pure a)
-  kept-pure a = record { kept = λ m i. i }
+  kept-pure a = record { kept = λ m i. i; raises = λ m i. tt }
 
-  pub kept-stop : {A : Type 0} (e : Stop) → Kept (stop_with {A = A} e)
-  kept-stop e = record { kept = λ m i. i }
+  pub kept-steps : {A : Type 0} → Kept (stop_with {A = A} stop.Steps)
+  kept-steps = record { kept = λ m i. i; raises = λ m i. tt }
+
+  kept-range : {A : Type 0} → Kept (stop_with {A = A} stop.Range)
+  kept-range = record { kept = λ m i. i; raises = λ m i. tt }
 
   on : {A B : Type 0} (f : A → M B) → ((a : A) → Kept (f a)) → (r : Result A Stop) (m : Machine) → I m → I (go_on r m f).1
   on f h (Ok a) m i = (h a).kept m i
   on f h (Err e) m i = i
 
+  raised_on : {A B : Type 0} (f : A → M B) → ((a : A) → Kept (f a)) → (r : Result A Stop) (m : Machine) → I m → Raises r m → Raises (go_on r m f).0 (go_on r m f).1
+  raised_on f h (Ok a) m i g = (h a).raises m i
+  raised_on f h (Err (stop.Raised v)) m i g = g
+  raised_on f h (Err stop.Steps) m i g = g
+  raised_on f h (Err stop.Range) m i g = g
+  raised_on f h (Err stop.NoMemory) m i g = g
+
   pub kept-bind : {A B : Type 0} (p : M A) (f : A → M B) → Kept p → ((a : A) → Kept (f a)) → Kept (p >>= f)
-  kept-bind p f hp hf = record { kept = λ m i. on f hf (p m).0 (p m).1 (hp.kept m i) }
+  kept-bind p f hp hf = record {
+    kept = λ m i. on f hf (p m).0 (p m).1 (hp.kept m i);
+    raises = λ m i. raised_on f hf (p m).0 (p m).1 (hp.kept m i) (hp.raises m i);
+  }
+
+  raises_made : (A : Type 0) (r : Result ObjRef Stop) (m : Machine) → ((o : ObjRef) → r ≡ Ok o → G m (object_value o)) → Raises r m
+      → Raises (go_on {B = A} r m (λ o. stop_with (stop.Raised (object_value o)))).0 (go_on {B = A} r m (λ o. stop_with (stop.Raised (object_value o)))).1
+  raises_made A (Ok o) m h g = h o refl
+  raises_made A (Err (stop.Raised v)) m h g = g
+  raises_made A (Err stop.Steps) m h g = g
+  raises_made A (Err stop.Range) m h g = g
+  raises_made A (Err stop.NoMemory) m h g = g
+
+  kept_made : (A : Type 0) (r : Result ObjRef Stop) (m : Machine) → I m → I (go_on {B = A} r m (λ o. stop_with (stop.Raised (object_value o)))).1
+  kept_made A (Ok o) m i = i
+  kept_made A (Err e) m i = i
+
+  pub raise_kept : {A : Type 0} (p : M ObjRef) → Makes p → Kept (raise {A = A} p)
+  raise_kept {A} p h = record {
+    kept = λ m i. kept_made A (p m).0 (p m).1 (h.made.kept m i);
+    raises = λ m i. raises_made A (p m).0 (p m).1 (h.good m i) (h.made.raises m i);
+  }
 
   pub cond_kept : {A : Type 0} (b : Bool) (p q : M A) → Kept p → Kept q → Kept (cond b p q)
   cond_kept true p q h k = h
   cond_kept false p q h k = k
 
+  -- an operation that looks at the machine first
+  pub by_machine : {A : Type 0} (p : Machine → M A) → ((m : Machine) → Kept (p m)) → Kept (λ m. p m m)
+  by_machine p h = record { kept = λ m i. (h m).kept m i; raises = λ m i. (h m).raises m i }
+
   -- ---- what reads no location
 
   pub fixed_kept : (o : ObjRef) → Kept (fixed o)
   unfolding fixed
-  fixed_kept o = record { kept = λ m i. i }
+  fixed_kept o = record { kept = λ m i. i; raises = λ m i. tt }
 
   pub key_at_kept : (d : ObjRef) (i : ℕ) → Kept (key_at d i)
   unfolding key_at
-  key_at_kept d n = record { kept = λ m i. i }
+  key_at_kept d n = record { kept = λ m i. i; raises = λ m i. tt }
 
   pub kind_kept : (x : Value) → Kept (kind x)
   unfolding kind
-  kind_kept x = record { kept = λ m i. i }
+  kind_kept x = record { kept = λ m i. i; raises = λ m i. tt }
 
   pub pair_kept : (a b : Value) → Kept (pair a b)
   unfolding pair
-  pair_kept a b = record { kept = λ m i. i }
+  pair_kept a b = record { kept = λ m i. i; raises = λ m i. tt }
 
   pub product_kept : (a b : Value) → Kept (ops.product a b)
   unfolding ops.product
-  product_kept a b = record { kept = λ m i. i }
+  product_kept a b = record { kept = λ m i. i; raises = λ m i. tt }
 
   pub form_kept : (inside : List ObjRef) (x : Value) → Kept (shown.form inside x)
   unfolding shown.form
-  form_kept inside x = record { kept = λ m i. i }
+  form_kept inside x = record { kept = λ m i. i; raises = λ m i. tt }
 
   pub exception_kept : (class : Value) → Kept (shown.exception class)
   unfolding shown.exception
-  exception_kept class = record { kept = λ m i. i }
+  exception_kept class = record { kept = λ m i. i; raises = λ m i. tt }
 
-  module _ (prims : Primitives) where
-    open prims use {steps_kept, load_kept, present_kept, shape_kept, store_kept, list_put_kept, list_splice_kept, dict_put_kept, dict_remove_kept, new_list_kept, new_dict_kept, new_instance_kept}
+  -- ---- errors
 
-    -- ---- errors
-
-    pub raise_kept : {A : Type 0} (made : M ObjRef) → Kept made → Kept (raise {A = A} made)
-    raise_kept made h = kept-bind _ _ h (λ o. kept-stop _)
-
+  module _ (instances : (class : Value) → Kept (new_instance class)) (stores : (l : Loc) (x : Option Value) → Kept (store l x)) where
     pub give_args_kept : (o : ObjRef) (x : Value) → Kept (give_args o x)
-    give_args_kept o x = kept-bind _ _ (store_kept _ _) (λ u. kept-pure o)
+    give_args_kept o x = kept-bind _ _ (stores _ _) (λ u. kept-pure o)
 
     pub new_error_kept : (c : ExcClass) → Kept (new_error c)
-    new_error_kept c = new_instance_kept _
+    new_error_kept c = instances _
 
     pub error_of_kept : (what : FaultKind) (name : List ℕ) → Kept (error_of what name)
     unfolding error_of
@@ -125,17 +171,16 @@ module _ (I : Machine → Type 0) where
     unfolding error_with
     error_with_kept c x = kept-bind _ _ (new_error_kept c) (λ o. cond_kept _ _ _ (error_of_kept _ _) (give_args_kept o x))
 
+  module _ (prims : Reads) where
+    open prims use {steps_kept, load_kept, present_kept, shape_kept, error_of_made}
+
     pub fault_kept : {A : Type 0} (what : FaultKind) → Kept (fault {A = A} what)
-    fault_kept what = raise_kept _ (error_of_kept what [])
+    fault_kept what = raise_kept _ (error_of_made what [])
 
     pub fault_named_kept : {A : Type 0} (what : FaultKind) (s : Sym) → Kept (fault_named {A = A} what s)
-    fault_named_kept {A} what s = record { kept = λ m i. (raise_kept {A = A} _ (error_of_kept what _)).kept m i }
+    fault_named_kept {A} what s = by_machine _ (λ m. raise_kept {A = A} _ (error_of_made what _))
 
     -- ---- new values
-
-    pub make_list_kept : (items : List Value) → Kept (make_list items)
-    unfolding make_list
-    make_list_kept items = search (kept-bind, steps_kept, new_list_kept, kept-pure)
 
     pub tuple_kept : (parts : List Value) → Kept (tuple parts)
     tuple_kept parts = cond_kept _ _ _ (fault_kept _) (kept-pure _)
@@ -147,11 +192,6 @@ module _ (I : Machine → Type 0) where
     pub make_text_kept : (t : List ℕ) → Kept (make_text t)
     unfolding make_text
     make_text_kept t = kept-bind _ _ (steps_kept _) (λ u. kept-pure _)
-
-    pub make_dict_kept : (keys values : List Value) → Kept (make_dict keys values)
-    unfolding make_dict
-    make_dict_kept keys values =
-        cond_kept _ _ _ (kept-bind _ _ (steps_kept _) (λ u. kept-bind _ _ (new_dict_kept keys values) (λ d. kept-pure _))) (fault_kept _)
 
     -- ---- walks
 
@@ -197,12 +237,12 @@ module _ (I : Machine → Type 0) where
 
     pub gather_kept : (n : ℕ) (x : Walker) (done : List Value) → Kept (gather n x done)
     unfolding gather
-    gather_kept zero x done = kept-stop stop.Steps
+    gather_kept zero x done = kept-steps
     gather_kept (suc n) x done = kept-bind _ _ (next_kept x) (λ part. go_through_kept (gather n) (gather_kept n) done part)
 
     pub collect_kept : (x : Walker) → Kept (collect x)
     unfolding collect
-    collect_kept x = record { kept = λ m i. (gather_kept (suc m.left) x []).kept m i }
+    collect_kept x = by_machine _ (λ m. gather_kept (suc m.left) x [])
 
     -- ---- truth
 
@@ -299,7 +339,7 @@ module _ (I : Machine → Type 0) where
 
     pub equal_kept : (a b : Value) → Kept (eq.equal a b)
     unfolding eq.equal
-    equal_kept a b = record { kept = λ m i. (equal_to_kept _ a b).kept m i }
+    equal_kept a b = by_machine _ (λ m. equal_to_kept _ a b)
 
     module _ (equal_below less_below : Value → Value → M Bool) (he : (x y : Value) → Kept (equal_below x y)) (hl : (x y : Value) → Kept (less_below x y)) where
       decided_kept : (xy : Option Value × Option Value) (rest : M Bool) (b : Bool) → Kept rest → Kept (ord.decided equal_below less_below xy rest b)
@@ -334,11 +374,11 @@ module _ (I : Machine → Type 0) where
 
     pub less_kept : (a b : Value) → Kept (ord.less a b)
     unfolding ord.less
-    less_kept a b = record { kept = λ m i. (less_to_kept _ false a b).kept m i }
+    less_kept a b = by_machine _ (λ m. less_to_kept _ false a b)
 
     pub less_or_equal_kept : (a b : Value) → Kept (ord.less_or_equal a b)
     unfolding ord.less_or_equal
-    less_or_equal_kept a b = record { kept = λ m i. (less_to_kept _ true a b).kept m i }
+    less_or_equal_kept a b = by_machine _ (λ m. less_to_kept _ true a b)
 
     -- ---- lookups
 
@@ -357,7 +397,7 @@ module _ (I : Machine → Type 0) where
 
       pub find_kept : (class : Value) → Kept (look.find a class)
       unfolding look.find
-      find_kept class = record { kept = λ m i. (found_above_kept _ (Some class)).kept m i }
+      find_kept class = by_machine _ (λ m. found_above_kept _ (Some class))
 
       or_missing_kept : (x : Option Value) → Kept (look.or_missing a x)
       or_missing_kept (Some x) = kept-pure _
@@ -407,7 +447,7 @@ module _ (I : Machine → Type 0) where
 
     answered_kept : (r : Result ℤ NumFault) → Kept (ops.answered r)
     answered_kept (Ok n) = kept-pure _
-    answered_kept (Err Range) = kept-stop _
+    answered_kept (Err Range) = kept-range
     answered_kept (Err ZeroDiv) = fault_kept _
 
     raised_to_kept : (x y : ℤ) → Kept (ops.raised_to x y)
@@ -421,36 +461,6 @@ module _ (I : Machine → Type 0) where
     of_numbers_kept f h (two.Lists o p) = fault_kept _
     of_numbers_kept f h (two.Dicts d e) = fault_kept _
     of_numbers_kept f h two.Others = fault_kept _
-
-    joined_lists_kept : (o p : ObjRef) → Kept (ops.joined_lists o p)
-    joined_lists_kept o p = kept-bind _ _ (collect_kept _) (λ xs. kept-bind _ _ (collect_kept _) (λ ys. make_list_kept _))
-
-    sum_of_kept : (s : Pair) → Kept (ops.sum_of s)
-    sum_of_kept (two.Numbers x y) = answered_kept _
-    sum_of_kept (two.Texts s t) = make_text_kept _
-    sum_of_kept (two.Tuples xs ys) = make_tuple_kept _
-    sum_of_kept (two.Lists o p) = joined_lists_kept o p
-    sum_of_kept (two.Dicts d e) = fault_kept _
-    sum_of_kept two.Others = fault_kept _
-
-    product_of_kept : (x : Product) → Kept (ops.product_of x)
-    product_of_kept (p.Numbers x y) = answered_kept _
-    product_of_kept (p.Text t n) = make_text_kept _
-    product_of_kept (p.Tuple xs n) = make_tuple_kept _
-    product_of_kept (p.List o n) = kept-bind _ _ (collect_kept _) (λ xs. make_list_kept _)
-    product_of_kept p.Others = fault_kept _
-
-    binary_of_kept : (op : BinaryOp) (a b : Value) → Kept (ops.binary_of op a b)
-    binary_of_kept binop.Add a b = kept-bind _ _ (pair_kept a b) sum_of_kept
-    binary_of_kept binop.Sub a b = kept-bind _ _ (pair_kept a b) (of_numbers_kept _ (λ x y. answered_kept _))
-    binary_of_kept binop.Mul a b = kept-bind _ _ (product_kept a b) product_of_kept
-    binary_of_kept binop.FloorDiv a b = kept-bind _ _ (pair_kept a b) (of_numbers_kept _ (λ x y. answered_kept _))
-    binary_of_kept binop.Mod a b = kept-bind _ _ (pair_kept a b) (of_numbers_kept _ (λ x y. answered_kept _))
-    binary_of_kept binop.Power a b = kept-bind _ _ (pair_kept a b) (of_numbers_kept _ raised_to_kept)
-
-    pub binary_kept : (op : BinaryOp) (a b : Value) → Kept (ops.binary op a b)
-    unfolding ops.binary
-    binary_kept op a b = binary_of_kept op a b
 
     negated_kept : (x : Kind) → Kept (ops.negated x)
     negated_kept (k.Number n) = answered_kept _
@@ -509,12 +519,12 @@ module _ (I : Machine → Type 0) where
     found_part_kept more h x (Some y, after) = kept-bind _ _ (equal_kept y x) (λ b. or_more_kept _ b (h after))
 
     found_from_kept : (x : Value) (n : ℕ) (after : Walker) → Kept (ops.found_from x n after)
-    found_from_kept x zero after = kept-stop _
+    found_from_kept x zero after = kept-steps
     found_from_kept x (suc n) after = kept-bind _ _ (next_kept after) (λ part. found_part_kept _ (found_from_kept x n) x part)
 
     pub find_equal_kept : (x : Value) (after : Walker) → Kept (ops.find_equal x after)
     unfolding ops.find_equal
-    find_equal_kept x after = record { kept = λ m i. (found_from_kept x (suc m.left) after).kept m i }
+    find_equal_kept x after = by_machine _ (λ m. found_from_kept x (suc m.left) after)
 
     through_kept : (x c : Value) → Kept (walk c >>= ops.find_equal x)
     through_kept x c = kept-bind _ _ (walk_kept c) (find_equal_kept x)
@@ -534,3 +544,48 @@ module _ (I : Machine → Type 0) where
     pub contains_kept : (x c : Value) → Kept (ops.contains x c)
     unfolding ops.contains
     contains_kept x c = kept-bind _ _ (kind_kept c) (contains_of_kept x c)
+
+  -- ---- what makes lists and dictionaries
+
+  module _ (prims : Reads) (more : Writes) where
+    open prims use {steps_kept}
+    open more use {new_list_kept, new_dict_kept}
+
+    pub make_list_kept : (items : List Value) → Kept (make_list items)
+    unfolding make_list
+    make_list_kept items = search (kept-bind, steps_kept, new_list_kept, kept-pure)
+
+    pub make_dict_kept : (keys values : List Value) → Kept (make_dict keys values)
+    unfolding make_dict
+    make_dict_kept keys values =
+        cond_kept _ _ _ (kept-bind _ _ (steps_kept _) (λ u. kept-bind _ _ (new_dict_kept keys values) (λ d. kept-pure _))) (fault_kept prims _)
+
+    joined_lists_kept : (o p : ObjRef) → Kept (ops.joined_lists o p)
+    joined_lists_kept o p = kept-bind _ _ (collect_kept prims _) (λ xs. kept-bind _ _ (collect_kept prims _) (λ ys. make_list_kept _))
+
+    sum_of_kept : (s : Pair) → Kept (ops.sum_of s)
+    sum_of_kept (two.Numbers x y) = answered_kept prims _
+    sum_of_kept (two.Texts s t) = make_text_kept prims _
+    sum_of_kept (two.Tuples xs ys) = make_tuple_kept prims _
+    sum_of_kept (two.Lists o p) = joined_lists_kept o p
+    sum_of_kept (two.Dicts d e) = fault_kept prims _
+    sum_of_kept two.Others = fault_kept prims _
+
+    product_of_kept : (x : Product) → Kept (ops.product_of x)
+    product_of_kept (p.Numbers x y) = answered_kept prims _
+    product_of_kept (p.Text t n) = make_text_kept prims _
+    product_of_kept (p.Tuple xs n) = make_tuple_kept prims _
+    product_of_kept (p.List o n) = kept-bind _ _ (collect_kept prims _) (λ xs. make_list_kept _)
+    product_of_kept p.Others = fault_kept prims _
+
+    binary_of_kept : (op : BinaryOp) (a b : Value) → Kept (ops.binary_of op a b)
+    binary_of_kept binop.Add a b = kept-bind _ _ (pair_kept a b) sum_of_kept
+    binary_of_kept binop.Sub a b = kept-bind _ _ (pair_kept a b) (of_numbers_kept prims _ (λ x y. answered_kept prims _))
+    binary_of_kept binop.Mul a b = kept-bind _ _ (product_kept a b) product_of_kept
+    binary_of_kept binop.FloorDiv a b = kept-bind _ _ (pair_kept a b) (of_numbers_kept prims _ (λ x y. answered_kept prims _))
+    binary_of_kept binop.Mod a b = kept-bind _ _ (pair_kept a b) (of_numbers_kept prims _ (λ x y. answered_kept prims _))
+    binary_of_kept binop.Power a b = kept-bind _ _ (pair_kept a b) (of_numbers_kept prims _ (raised_to_kept prims))
+
+    pub binary_kept : (op : BinaryOp) (a b : Value) → Kept (ops.binary op a b)
+    unfolding ops.binary
+    binary_kept op a b = binary_of_kept op a b

@@ -1,5 +1,5 @@
 -- What no operation takes back.
-use Rattle.std.proofs.Common.{◌≡◌, ◌≤◌, ◌-◌, ◌∙◌, ℕ, Bool, true, false, cond, List, [], ◌∷◌, ◌++◌, length, Option, Some, None, Ok, Err, refl, ap, sym, append_assoc, arith}
+use Rattle.std.proofs.Common.{◌≡◌, ◌≤◌, ◌-◌, ◌∙◌, ℕ, Bool, true, false, cond, List, [], ◌∷◌, ◌++◌, length, Option, Some, None, Result, Ok, Err, refl, ap, sym, append_assoc, arith}
 use Rattle.std.specs.Prelude.{nat_le}
 use Rattle.std.proofs.lemmas.List.{append-nil}
 use Rattle.flow_base.specs.declared.event.Event.{Event}
@@ -20,8 +20,9 @@ use Rattle.heap_objects.proofs.MadeLaws.{kept_dict, kept_instance, kept_list}
 use Rattle.interp_ops.specs.Later.{IsLater}
 use Rattle.interp_ops.specs.Meaning.{dict_put, dict_remove, list_put, list_splice, load, new_dict, new_instance, new_list, present, shape, steps, store, with_heap, M, Outcome}
 use Rattle.interp_ops.specs.declared.machine.Machine.{Machine}
+use Rattle.interp_ops.specs.declared.stop.Stop.{Stop}
 use Rattle.interp_ops.specs.declared.stop.Stop.TheVariants as stop
-use Rattle.interp_ops.proofs.Kept.{Kept, Primitives}
+use Rattle.interp_ops.proofs.Kept.{Kept, Makes, Raises, Reads, Writes, error_of_kept, error_with_kept}
 
 -- ---- states
 
@@ -153,26 +154,50 @@ instance_later : (class : Value) (m : Machine) → IsLater m (new_instance class
 unfolding new_instance
 instance_later class m = later_of m _ (kept_instance m.heap class) (instance_adds class m.heap)
 
--- an operation after which every machine is later keeps what is later than another
-keeps_later : {A : Type 0} (l : Machine) (p : M A) → ((m : Machine) → IsLater m (p m).1) → Kept (IsLater l) p
-keeps_later l p h = record { kept = λ m i. later_then l m (p m).1 i (h m) }
+-- of a value that is raised nothing is said
+abbrev pub Any : Machine → Value → Type 0
+Any m v = Unit {0}
 
-pub later_primitives : (l : Machine) → Primitives (IsLater l)
-later_primitives l = record {
+nothing_said : {A : Type 0} (l m : Machine) (r : Result A Stop) → Raises (IsLater l) Any r m
+nothing_said l m (Ok a) = tt
+nothing_said l m (Err (stop.Raised v)) = tt
+nothing_said l m (Err stop.Steps) = tt
+nothing_said l m (Err stop.Range) = tt
+nothing_said l m (Err stop.NoMemory) = tt
+
+-- an operation after which every machine is later keeps what is later than another
+keeps_later : {A : Type 0} (l : Machine) (p : M A) → ((m : Machine) → IsLater m (p m).1) → Kept (IsLater l) Any p
+keeps_later l p h = record { kept = λ m i. later_then l m (p m).1 i (h m); raises = λ m i. nothing_said l (p m).1 (p m).0 }
+
+instances_later : (l : Machine) (class : Value) → Kept (IsLater l) Any (new_instance class)
+instances_later l class = keeps_later l _ (instance_later class)
+
+stores_later : (l : Machine) (k : Loc) (v : Option Value) → Kept (IsLater l) Any (store k v)
+stores_later l k v = keeps_later l _ (store_later k v)
+
+makes_later : (l : Machine) (p : M ObjRef) → Kept (IsLater l) Any p → Makes (IsLater l) Any p
+makes_later l p h = record { made = h; good = λ m i o e. tt }
+
+pub later_reads : (l : Machine) → Reads (IsLater l) Any
+later_reads l = record {
   steps_kept = λ n. keeps_later l _ (steps_later n);
   load_kept = λ k. keeps_later l _ (load_later k);
   present_kept = λ d k. keeps_later l _ (present_later d k);
   shape_kept = λ how o. keeps_later l _ (shape_later how o);
-  store_kept = λ k v. keeps_later l _ (store_later k v);
+  error_of_made = λ what name. makes_later l _ (error_of_kept (IsLater l) Any (instances_later l) (stores_later l) what name);
+}
+
+pub later_writes : (l : Machine) → Writes (IsLater l) Any
+later_writes l = record {
   list_put_kept = λ o i v. keeps_later l _ (item_later o i v);
   list_splice_kept = λ o i tail. keeps_later l _ (splice_later o i tail);
   dict_put_kept = λ d k v. keeps_later l _ (put_later d k v);
   dict_remove_kept = λ d k. keeps_later l _ (remove_later d k);
   new_list_kept = λ items. keeps_later l _ (list_later items);
   new_dict_kept = λ keys values. keeps_later l _ (dict_later keys values);
-  new_instance_kept = λ class. keeps_later l _ (instance_later class);
+  error_with_made = λ c x. makes_later l _ (error_with_kept (IsLater l) Any (instances_later l) (stores_later l) c x);
 }
 
 -- what keeps all that primitive operations keep leaves a later machine
-pub added : {A : Type 0} (p : M A) → ((I : Machine → Type 0) → Primitives I → Kept I p) → (m : Machine) → IsLater m (p m).1
-added p h m = (h (IsLater m) (later_primitives m)).kept m (later_itself m)
+pub added : {A : Type 0} (p : M A) → ((l : Machine) → Kept (IsLater l) Any p) → (m : Machine) → IsLater m (p m).1
+added p h m = (h m).kept m (later_itself m)
