@@ -21,7 +21,7 @@ use Rattle.interp_ops.specs.Orders as ord
 use Rattle.interp_ops.specs.Shown as shown
 use Rattle.interp_ops.specs.Shown.{Shower, Arguments, Teller}
 use Rattle.interp_ops.specs.Truths.{has_entries, truth, truth_of}
-use Rattle.interp_ops.specs.Walks.{collect, counted, gather, go_through, int_value, member, member_after, next, next_of, walk, walk_of}
+use Rattle.interp_ops.specs.Walks.{collect, counted, gather, go_through, int_value, member, member_after, next, next_of, some_member, walk, walk_of}
 use Rattle.interp_ops.specs.declared.kinds.Kind.{Kind}
 use Rattle.interp_ops.specs.declared.kinds.Kind.TheVariants as k
 use Rattle.interp_ops.specs.declared.kinds.Pair.{Pair}
@@ -196,12 +196,17 @@ module _ (I : Machine → Type 0) (G : Machine → Value → Type 0) where
     -- ---- walks
 
     pub counted_kept : (x : Option Value) (after : Walker) → Kept (counted x after)
+    unfolding counted
     counted_kept None after = kept-pure _
     counted_kept (Some x) after = kept-bind _ _ (steps_kept 1) (λ u. kept-pure _)
 
+    some_member_kept : (a step : ℤ) (n : ℕ) → Kept (some_member a step n)
+    unfolding some_member
+    some_member_kept a step n = counted_kept (Some (int_value a)) (w.Range (member_after a step n) step n)
+
     member_kept : (a step : ℤ) (n : ℕ) → Kept (member a step n)
-    member_kept a step zero = kept-pure _
-    member_kept a step (suc n) = counted_kept (Some (int_value a)) (w.Range (member_after a step n) step n)
+    unfolding member
+    member_kept a step n = cond_kept _ _ _ (kept-pure _) (some_member_kept a step _)
 
     next_of_kept : (x : Walker) → Kept (next_of x)
     next_of_kept (w.Items o i) = kept-bind _ _ (load_kept _) (λ x. counted_kept x _)
@@ -292,14 +297,20 @@ module _ (I : Machine → Type 0) (G : Machine → Value → Type 0) where
     and_then_kept more true h = h
     and_then_kept more false h = kept-pure _
 
+    all_from_kept : (test : ℕ → M Bool) → ((i : ℕ) → Kept (test i)) → (i n : ℕ) → Kept (eq.all_from test i n)
+    unfolding eq.all_from
+    all_from_kept test h i zero = kept-pure _
+    all_from_kept test h i (suc n) = kept-bind _ _ (h i) (λ b. and_then_kept _ b (all_from_kept test h (suc i) n))
+
     module _ (below : Value → Value → M Bool) (h : (x y : Value) → Kept (below x y)) where
-      equal_from_kept : (s : Pair) (i n : ℕ) → Kept (eq.equal_from below s i n)
-      equal_from_kept s i zero = kept-pure _
-      equal_from_kept s i (suc n) =
-          kept-bind _ _ (kept-bind _ _ (sides_kept s i) (λ xy. both_kept below h xy)) (λ b. and_then_kept _ b (equal_from_kept s (suc i) n))
+      equal_sides_kept : (s : Pair) (i : ℕ) → Kept (eq.equal_sides below s i)
+      equal_sides_kept s i = kept-bind _ _ (sides_kept s i) (both_kept below h)
 
       equal_sequences_kept : (s : Pair) (counts : ℕ × ℕ) → Kept (eq.equal_sequences below s counts)
-      equal_sequences_kept s counts = cond_kept _ _ _ (equal_from_kept s 0 counts.0) (kept-pure _)
+      equal_sequences_kept s counts = cond_kept _ _ _ (all_from_kept _ (equal_sides_kept s) 0 counts.0) (kept-pure _)
+
+      equal_parts_kept : (s : Pair) → Kept (eq.equal_parts below s)
+      equal_parts_kept s = kept-bind _ _ (lengths_kept s) (equal_sequences_kept s)
 
       equal_at_kept : (d e : ObjRef) (key : Key) (b : Bool) → Kept (eq.equal_at below d e key b)
       equal_at_kept d e key true = kept-bind _ _ (load_kept _) (λ x. kept-bind _ _ (load_kept _) (λ y. both_kept below h (x, y)))
@@ -309,57 +320,64 @@ module _ (I : Machine → Type 0) (G : Machine → Value → Type 0) where
       equal_entry_kept d e None = kept-pure _
       equal_entry_kept d e (Some key) = kept-bind _ _ (present_kept e key) (equal_at_kept d e key)
 
-      equal_entries_kept : (d e : ObjRef) (i n : ℕ) → Kept (eq.equal_entries below d e i n)
-      equal_entries_kept d e i zero = kept-pure _
-      equal_entries_kept d e i (suc n) =
-          kept-bind _ _ (steps_kept 1) (λ u.
-          kept-bind _ _ (key_at_kept d i) (λ x.
-          kept-bind _ _ (equal_entry_kept d e (eq.key_if x)) (λ b. and_then_kept _ b (equal_entries_kept d e (suc i) n))))
+      equal_place_kept : (d e : ObjRef) (i : ℕ) → Kept (eq.equal_place below d e i)
+      equal_place_kept d e i = kept-bind _ _ (steps_kept 1) (λ u. kept-bind _ _ (key_at_kept d i) (λ x. equal_entry_kept d e (eq.key_if x)))
 
-      equal_dicts_kept : (d e : ObjRef) (m n : ℕ) → Kept (eq.equal_dicts below d e m n)
-      equal_dicts_kept d e m n = cond_kept _ _ _ (equal_entries_kept d e 0 m) (kept-pure _)
+      equal_counts_kept : (d e : ObjRef) (m n : ℕ) → Kept (eq.equal_counts below d e m n)
+      equal_counts_kept d e m n = cond_kept _ _ _ (all_from_kept _ (equal_place_kept d e) 0 m) (kept-pure _)
+
+      equal_dicts_kept : (d e : ObjRef) → Kept (eq.equal_dicts below d e)
+      equal_dicts_kept d e = kept-bind _ _ (shape_kept _ d) (λ m. kept-bind _ _ (shape_kept _ e) (λ n. equal_counts_kept d e m n))
 
       equal_pair_kept : (a b : Value) (s : Pair) → Kept (eq.equal_pair below a b s)
       equal_pair_kept a b (two.Numbers x y) = kept-pure _
       equal_pair_kept a b (two.Texts s t) = kept-pure _
-      equal_pair_kept a b (two.Tuples xs ys) = equal_sequences_kept (two.Tuples xs ys) (length xs, length ys)
-      equal_pair_kept a b (two.Lists o p) = cond_kept _ _ _ (kept-pure _) (kept-bind _ _ (lengths_kept (two.Lists o p)) (equal_sequences_kept (two.Lists o p)))
-      equal_pair_kept a b (two.Dicts d e) =
-          cond_kept _ _ _ (kept-pure _) (kept-bind _ _ (shape_kept _ d) (λ m. kept-bind _ _ (shape_kept _ e) (λ n. equal_dicts_kept d e m n)))
+      equal_pair_kept a b (two.Tuples xs ys) = equal_parts_kept (two.Tuples xs ys)
+      equal_pair_kept a b (two.Lists o p) = cond_kept _ _ _ (kept-pure _) (equal_parts_kept (two.Lists o p))
+      equal_pair_kept a b (two.Dicts d e) = cond_kept _ _ _ (kept-pure _) (equal_dicts_kept d e)
       equal_pair_kept a b two.Others = kept-pure _
 
       pub equal_with_kept : (a b : Value) → Kept (eq.equal_with below a b)
       unfolding eq.equal_with
       equal_with_kept a b = kept-bind _ _ (pair_kept a b) (equal_pair_kept a b)
 
-    pub equal_to_kept : (n : ℕ) (a b : Value) → Kept (eq.equal_to n a b)
-    unfolding eq.equal_to
-    equal_to_kept zero a b = equal_with_kept _ (λ x y. fault_kept error.Depth) a b
-    equal_to_kept (suc n) a b = equal_with_kept _ (equal_to_kept n) a b
+    pub equal_below_kept : (n : ℕ) (a b : Value) → Kept (eq.equal_below n a b)
+    unfolding eq.equal_below
+    equal_below_kept zero a b = fault_kept error.Depth
+    equal_below_kept (suc n) a b = equal_with_kept _ (equal_below_kept n) a b
 
     pub equal_kept : (a b : Value) → Kept (eq.equal a b)
     unfolding eq.equal
-    equal_kept a b = by_machine _ (λ m. equal_to_kept _ a b)
+    equal_kept a b = by_machine _ (λ m. equal_with_kept _ (equal_below_kept _) a b)
+
+    or_else_kept : (rest : M Bool) (b : Option Bool) → Kept rest → Kept (ord.or_else rest b)
+    or_else_kept rest None h = h
+    or_else_kept rest (Some b) h = kept-pure _
+
+    first_from_kept : (test : ℕ → M (Option Bool)) → ((i : ℕ) → Kept (test i)) → (i n : ℕ) (otherwise : Bool) → Kept (ord.first_from test i n otherwise)
+    unfolding ord.first_from
+    first_from_kept test h i zero otherwise = kept-pure _
+    first_from_kept test h i (suc n) otherwise = kept-bind _ _ (h i) (λ b. or_else_kept _ b (first_from_kept test h (suc i) n otherwise))
 
     module _ (equal_below less_below : Value → Value → M Bool) (he : (x y : Value) → Kept (equal_below x y)) (hl : (x y : Value) → Kept (less_below x y)) where
-      decided_kept : (xy : Option Value × Option Value) (rest : M Bool) (b : Bool) → Kept rest → Kept (ord.decided equal_below less_below xy rest b)
-      decided_kept xy rest true h = h
-      decided_kept xy rest false h = both_kept less_below hl xy
+      decided_kept : (xy : Option Value × Option Value) (b : Bool) → Kept (ord.decided equal_below less_below xy b)
+      decided_kept xy true = kept-pure _
+      decided_kept xy false = kept-bind _ _ (both_kept less_below hl xy) (λ b. kept-pure _)
 
-      less_from_kept : (s : Pair) (i n : ℕ) (otherwise : Bool) → Kept (ord.less_from equal_below less_below s i n otherwise)
-      less_from_kept s i zero otherwise = kept-pure _
-      less_from_kept s i (suc n) otherwise =
-          kept-bind _ _ (sides_kept s i) (λ xy.
-          kept-bind _ _ (both_kept equal_below he xy) (λ b. decided_kept xy _ b (less_from_kept s (suc i) n otherwise)))
+      decided_at_kept : (s : Pair) (i : ℕ) → Kept (ord.decided_at equal_below less_below s i)
+      decided_at_kept s i = kept-bind _ _ (sides_kept s i) (λ xy. kept-bind _ _ (both_kept equal_below he xy) (decided_kept xy))
 
       less_sequences_kept : (same : Bool) (s : Pair) (counts : ℕ × ℕ) → Kept (ord.less_sequences equal_below less_below same s counts)
-      less_sequences_kept same s counts = less_from_kept s 0 _ _
+      less_sequences_kept same s counts = first_from_kept _ (decided_at_kept s) 0 _ _
+
+      less_parts_kept : (same : Bool) (s : Pair) → Kept (ord.less_parts equal_below less_below same s)
+      less_parts_kept same s = kept-bind _ _ (lengths_kept s) (less_sequences_kept same s)
 
       less_pair_kept : (same : Bool) (s : Pair) → Kept (ord.less_pair equal_below less_below same s)
       less_pair_kept same (two.Numbers x y) = kept-pure _
       less_pair_kept same (two.Texts s t) = kept-pure _
-      less_pair_kept same (two.Tuples xs ys) = less_sequences_kept same (two.Tuples xs ys) (length xs, length ys)
-      less_pair_kept same (two.Lists o p) = kept-bind _ _ (lengths_kept (two.Lists o p)) (less_sequences_kept same (two.Lists o p))
+      less_pair_kept same (two.Tuples xs ys) = less_parts_kept same (two.Tuples xs ys)
+      less_pair_kept same (two.Lists o p) = less_parts_kept same (two.Lists o p)
       less_pair_kept same (two.Dicts d e) = fault_kept _
       less_pair_kept same two.Others = fault_kept _
 
@@ -367,18 +385,18 @@ module _ (I : Machine → Type 0) (G : Machine → Value → Type 0) where
       unfolding ord.less_with
       less_with_kept same a b = kept-bind _ _ (pair_kept a b) (less_pair_kept same)
 
-    pub less_to_kept : (n : ℕ) (same : Bool) (a b : Value) → Kept (ord.less_to n same a b)
-    unfolding ord.less_to
-    less_to_kept zero same a b = less_with_kept _ _ (λ x y. fault_kept error.Depth) (λ x y. fault_kept error.Depth) same a b
-    less_to_kept (suc n) same a b = less_with_kept _ _ (equal_to_kept n) (less_to_kept n false) same a b
+    pub less_below_kept : (n : ℕ) (a b : Value) → Kept (ord.less_below n a b)
+    unfolding ord.less_below
+    less_below_kept zero a b = fault_kept error.Depth
+    less_below_kept (suc n) a b = less_with_kept _ _ (equal_below_kept n) (less_below_kept n) false a b
 
     pub less_kept : (a b : Value) → Kept (ord.less a b)
     unfolding ord.less
-    less_kept a b = by_machine _ (λ m. less_to_kept _ false a b)
+    less_kept a b = by_machine _ (λ m. less_with_kept _ _ (equal_below_kept _) (less_below_kept _) false a b)
 
     pub less_or_equal_kept : (a b : Value) → Kept (ord.less_or_equal a b)
     unfolding ord.less_or_equal
-    less_or_equal_kept a b = by_machine _ (λ m. less_to_kept _ true a b)
+    less_or_equal_kept a b = by_machine _ (λ m. less_with_kept _ _ (equal_below_kept _) (less_below_kept _) true a b)
 
     -- ---- lookups
 

@@ -94,8 +94,7 @@ module _ (I : Machine → Type 0) (G : Machine → Value → Type 0) (prims : Re
 
   list_store_kept : (o : ObjRef) (x : Value) (n : Option ℤ) → Kept I G (sub.list_store o x n)
   list_store_kept o x None = fault_kept I G prims _
-  list_store_kept o x (Some (pos i)) = kept-bind I G _ _ (shape_kept _ o) (λ count. put_item_kept o x _)
-  list_store_kept o x (Some (negsuc i)) = kept-bind I G _ _ (shape_kept _ o) (λ count. put_item_kept o x _)
+  list_store_kept o x (Some n) = kept-bind I G _ _ (shape_kept _ o) (λ count. put_item_kept o x _)
 
   dict_store_kept : (d : ObjRef) (key x : Value) (k : Option Key) → Kept I G (sub.dict_store d key x k)
   dict_store_kept d key x None = fault_kept I G prims _
@@ -169,113 +168,108 @@ module _ (I : Machine → Type 0) (G : Machine → Value → Type 0) (prims : Re
   ends_kept : (word d : List ℕ) → Kept I G (shown.ends_with word d)
   ends_kept word d = kept-pure I G _
 
-  either_kept : {A : Type 0} (f : Option Value → M A) → Kept I G (f None) → ((y : Value) → Kept I G (f (Some y))) → (x : Option Value) → Kept I G (f x)
-  either_kept f h k None = h
-  either_kept f h k (Some y) = k y
+  plain_kept : (d t : List ℕ) → Kept I G (shown.plain d t)
+  plain_kept d t = kept-bind I G _ _ (steps_kept _) (λ u. kept-pure I G _)
 
   module _ (below : Shower) (h : (inside : List ObjRef) (d : List ℕ) (x : Value) → Kept I G (below inside d x)) where
-    show_part_kept : (inside : List ObjRef) (more : Walker → List ℕ → List ℕ → M (List ℕ)) → ((x : Walker) (comma d : List ℕ) → Kept I G (more x comma d))
-        → (comma d : List ℕ) (part : Option Value × Walker) → Kept I G (shown.show_part below inside more comma d part)
-    show_part_kept inside more k comma d (None, after) = kept-pure I G _
-    show_part_kept inside more k comma d (Some x, after) = kept-bind I G _ _ (h inside _ x) (λ e. k after _ e)
+    show_part_kept : (inside : List ObjRef) (more : Walker → Bool → List ℕ → M (List ℕ)) → ((x : Walker) (follows : Bool) (d : List ℕ) → Kept I G (more x follows d))
+        → (follows : Bool) (d : List ℕ) (part : Option Value × Walker) → Kept I G (shown.show_part below inside more follows d part)
+    show_part_kept inside more k follows d (None, after) = kept-pure I G _
+    show_part_kept inside more k follows d (Some x, after) = kept-bind I G _ _ (h inside _ x) (λ e. k after true e)
 
-    show_parts_kept : (inside : List ObjRef) (n : ℕ) (x : Walker) (comma d : List ℕ) → Kept I G (shown.show_parts below inside n x comma d)
-    show_parts_kept inside zero x comma d = kept-steps I G
-    show_parts_kept inside (suc n) x comma d = kept-bind I G _ _ (next_kept I G prims x) (λ part. show_part_kept inside _ (show_parts_kept inside n) comma d part)
+    show_parts_kept : (inside : List ObjRef) (n : ℕ) (x : Walker) (follows : Bool) (d : List ℕ) → Kept I G (shown.show_parts below inside n x follows d)
+    unfolding shown.show_parts
+    show_parts_kept inside zero x follows d = kept-steps I G
+    show_parts_kept inside (suc n) x follows d =
+        kept-bind I G _ _ (next_kept I G prims x) (λ part. show_part_kept inside _ (show_parts_kept inside n) follows d part)
 
     show_walk_kept : (inside : List ObjRef) (x : Walker) (d : List ℕ) → Kept I G (shown.show_walk below inside x d)
     unfolding shown.show_walk
-    show_walk_kept inside x d = by_machine I G _ (λ m. show_parts_kept inside (suc m.left) x [] d)
+    show_walk_kept inside x d = by_machine I G _ (λ m. show_parts_kept inside (suc m.left) x false d)
+
+    show_pair_kept : (inside : List ObjRef) (d : List ℕ) (key : Value) (x : Option Value) → Kept I G (shown.show_pair below inside d key x)
+    show_pair_kept inside d key None = kept-pure I G _
+    show_pair_kept inside d key (Some x) = kept-bind I G _ _ (steps_kept 1) (λ u. kept-bind I G _ _ (h inside d key) (λ e. h inside _ x))
 
     show_item_kept : (inside : List ObjRef) (o : ObjRef) (d : List ℕ) (key : Value) (k : Option Key) → Kept I G (shown.show_item below inside o d key k)
     show_item_kept inside o d key None = kept-pure I G _
-    show_item_kept inside o d key (Some k) =
-        kept-bind I G (load (loc.Item o k)) _ (load_kept _)
-        (either_kept _ (kept-pure I G d) (λ y. kept-bind I G _ _ (steps_kept 1) (λ u. kept-bind I G _ _ (h inside d key) (λ e. h inside _ y))))
+    show_item_kept inside o d key (Some k) = kept-bind I G _ _ (load_kept _) (show_pair_kept inside d key)
 
     show_entry_kept : (inside : List ObjRef) (o : ObjRef) (d : List ℕ) (key : Option Value) → Kept I G (shown.show_entry below inside o d key)
     show_entry_kept inside o d None = kept-pure I G _
     show_entry_kept inside o d (Some key) = show_item_kept inside o d key _
 
-    show_entries_kept : (inside : List ObjRef) (o : ObjRef) (i n : ℕ) (comma d : List ℕ) → Kept I G (shown.show_entries below inside o i n comma d)
-    show_entries_kept inside o i zero comma d = kept-pure I G _
-    show_entries_kept inside o i (suc n) comma d =
-        kept-bind I G _ _ (kept-bind I G _ _ (key_at_kept I G o i) (λ key. show_entry_kept inside o _ key)) (λ e. show_entries_kept inside o (suc i) n _ e)
+    show_entries_kept : (inside : List ObjRef) (o : ObjRef) (i n : ℕ) (follows : Bool) (d : List ℕ) → Kept I G (shown.show_entries below inside o i n follows d)
+    unfolding shown.show_entries
+    show_entries_kept inside o i zero follows d = kept-pure I G _
+    show_entries_kept inside o i (suc n) follows d =
+        kept-bind I G _ _ (kept-bind I G _ _ (key_at_kept I G o i) (λ key. show_entry_kept inside o _ key)) (λ e. show_entries_kept inside o (suc i) n true e)
 
   module _ (below : Shower) (h : (inside : List ObjRef) (d : List ℕ) (x : Value) → Kept I G (below inside d x)) (arguments : Arguments)
       (g : (inside : List ObjRef) (d : List ℕ) (xs : List Value) → Kept I G (arguments inside d xs)) where
     show_form_kept : (inside : List ObjRef) (d : List ℕ) (x : Form) → Kept I G (shown.show_form below arguments inside d x)
-    show_form_kept inside d (form.Plain t) = kept-bind I G _ _ (steps_kept _) (λ u. kept-pure I G _)
+    show_form_kept inside d (form.Plain t) = plain_kept d t
     show_form_kept inside d (form.List o) = kept-bind I G _ _ (show_walk_kept below h _ _ _) (ends_kept _)
     show_form_kept inside d (form.Tuple xs) = kept-bind I G _ _ (show_walk_kept below h _ _ _) (ends_kept _)
-    show_form_kept inside d (form.Dict o) = kept-bind I G _ _ (shape_kept _ o) (λ n. kept-bind I G _ _ (show_entries_kept below h _ o 0 n [] _) (ends_kept _))
+    show_form_kept inside d (form.Dict o) = kept-bind I G _ _ (shape_kept _ o) (λ n. kept-bind I G _ _ (show_entries_kept below h _ o 0 n false _) (ends_kept _))
     show_form_kept inside d (form.Error o name) = kept-bind I G _ _ (args_of_kept o) (λ xs. kept-bind I G _ _ (g _ _ xs) (ends_kept _))
 
     show_with_kept : (inside : List ObjRef) (d : List ℕ) (x : Value) → Kept I G (shown.show_with below arguments inside d x)
     unfolding shown.show_with
     show_with_kept inside d x = kept-bind I G _ _ (form_kept I G inside x) (show_form_kept inside d)
 
-  too_deep_kept : (inside : List ObjRef) (d : List ℕ) (x : Value) → Kept I G (shown.too_deep inside d x)
-  too_deep_kept inside d x = fault_kept I G prims _
-
-  no_arguments_kept : (inside : List ObjRef) (d : List ℕ) (xs : List Value) → Kept I G (shown.no_arguments inside d xs)
-  no_arguments_kept inside d xs = fault_kept I G prims _
-
   mutual
     unfolding shown.show_to shown.arguments_to
 
     show_to_kept : (n : ℕ) (inside : List ObjRef) (d : List ℕ) (x : Value) → Kept I G (shown.show_to n inside d x)
-    show_to_kept zero inside d x = show_with_kept _ too_deep_kept _ no_arguments_kept inside d x
+    show_to_kept zero inside d x = fault_kept I G prims _
     show_to_kept (suc n) inside d x = show_with_kept _ (show_to_kept n) _ (arguments_to_kept n) inside d x
 
     arguments_to_kept : (n : ℕ) (inside : List ObjRef) (d : List ℕ) (xs : List Value) → Kept I G (shown.arguments_to n inside d xs)
-    arguments_to_kept zero inside d xs = show_walk_kept _ too_deep_kept inside _ d
+    arguments_to_kept zero inside d xs = fault_kept I G prims _
     arguments_to_kept (suc n) inside d xs = show_walk_kept _ (show_to_kept n) inside _ d
 
   pub show_kept : (x : Value) → Kept I G (shown.show x)
   unfolding shown.show
   show_kept x = by_machine I G _ (λ m. show_to_kept _ [] [] x)
 
-  module _ (below below_shown : Teller) (below_tuple : List ℕ → List Value → M (List ℕ)) (told : Teller) (hb : (d : List ℕ) (x : Value) → Kept I G (below d x))
-      (hs : (d : List ℕ) (x : Value) → Kept I G (below_shown d x)) (ht : (d : List ℕ) (xs : List Value) → Kept I G (below_tuple d xs)) (h : (d : List ℕ) (x : Value) → Kept I G (told d x))
-      (d : List ℕ) where
-    str_arguments_kept : (keyed : Bool) (xs : List Value) → Kept I G (shown.str_arguments below below_shown below_tuple told d keyed xs)
-    str_arguments_kept true [] = kept-pure I G _
-    str_arguments_kept true (x ∷ []) = hs d x
-    str_arguments_kept true (x ∷ y ∷ ys) = ht d _
-    str_arguments_kept false [] = kept-pure I G _
-    str_arguments_kept false (x ∷ []) = hb d x
-    str_arguments_kept false (x ∷ y ∷ ys) = ht d _
-
-    str_instance_kept : (x : Value) (o : ObjRef) (c : Option ExcClass) → Kept I G (shown.str_instance below below_shown below_tuple told d x o c)
-    str_instance_kept x o None = h d x
-    str_instance_kept x o (Some c) = kept-bind I G _ _ (args_of_kept o) (str_arguments_kept _)
-
-    str_of_kept : (x : Value) (y : Kind) → Kept I G (shown.str_of below below_shown below_tuple told d x y)
-    str_of_kept x (k.Text t) = kept-bind I G _ _ (steps_kept _) (λ u. kept-pure I G _)
-    str_of_kept x (k.Instance o class) = kept-bind I G _ _ (exception_kept I G class) (str_instance_kept x o)
-    str_of_kept x k.Nil = h d x
-    str_of_kept x (k.Number n) = h d x
-    str_of_kept x (k.Tuple xs) = h d x
-    str_of_kept x (k.Range start end step) = h d x
-    str_of_kept x (k.List o) = h d x
-    str_of_kept x (k.Dict o) = h d x
-    str_of_kept x (k.Class o) = h d x
-    str_of_kept x k.Other = h d x
-
-    str_with_kept : (x : Value) → Kept I G (shown.str_with below below_shown below_tuple told d x)
-    unfolding shown.str_with
-    str_with_kept x = kept-bind I G _ _ (kind_kept I G x) (str_of_kept x)
-
   tuple_to_kept : (n : ℕ) (d : List ℕ) (xs : List Value) → Kept I G (shown.tuple_to n d xs)
   tuple_to_kept n d xs = kept-bind I G _ _ (arguments_to_kept n [] _ xs) (ends_kept _)
 
+  module _ (n below : ℕ) (told : Teller) (h : (d : List ℕ) (x : Value) → Kept I G (told d x)) (d : List ℕ) where
+    str_one_kept : (keyed : Bool) (x : Value) → Kept I G (shown.str_one below told d keyed x)
+    str_one_kept true x = show_to_kept below [] d x
+    str_one_kept false x = h d x
+
+    str_arguments_kept : (keyed : Bool) (xs : List Value) → Kept I G (shown.str_arguments below told d keyed xs)
+    str_arguments_kept keyed [] = kept-pure I G _
+    str_arguments_kept keyed (x ∷ []) = str_one_kept keyed x
+    str_arguments_kept keyed (x ∷ y ∷ ys) = tuple_to_kept below d _
+
+    str_instance_kept : (x : Value) (o : ObjRef) (c : Option ExcClass) → Kept I G (shown.str_instance n below told d x o c)
+    str_instance_kept x o None = show_to_kept n [] d x
+    str_instance_kept x o (Some c) = kept-bind I G _ _ (args_of_kept o) (str_arguments_kept _)
+
+    str_of_kept : (x : Value) (y : Kind) → Kept I G (shown.str_of n below told d x y)
+    str_of_kept x (k.Text t) = plain_kept d t
+    str_of_kept x (k.Instance o class) = kept-bind I G _ _ (exception_kept I G class) (str_instance_kept x o)
+    str_of_kept x k.Nil = show_to_kept n [] d x
+    str_of_kept x (k.Number i) = show_to_kept n [] d x
+    str_of_kept x (k.Tuple xs) = show_to_kept n [] d x
+    str_of_kept x (k.Range start end step) = show_to_kept n [] d x
+    str_of_kept x (k.List o) = show_to_kept n [] d x
+    str_of_kept x (k.Dict o) = show_to_kept n [] d x
+    str_of_kept x (k.Class o) = show_to_kept n [] d x
+    str_of_kept x k.Other = show_to_kept n [] d x
+
+    str_with_kept : (x : Value) → Kept I G (shown.str_with n below told d x)
+    unfolding shown.str_with
+    str_with_kept x = kept-bind I G _ _ (kind_kept I G x) (str_of_kept x)
+
   str_to_kept : (n : ℕ) (d : List ℕ) (x : Value) → Kept I G (shown.str_to n d x)
   unfolding shown.str_to
-  str_to_kept zero d x =
-      str_with_kept _ _ _ _ (λ e y. fault_kept I G prims _) (λ e y. fault_kept I G prims _) (λ e ys. fault_kept I G prims _) (λ e y. show_to_kept 0 [] e y) d x
-  str_to_kept (suc n) d x =
-      str_with_kept _ _ _ _ (str_to_kept n) (λ e y. show_to_kept n [] e y) (tuple_to_kept n) (λ e y. show_to_kept (suc n) [] e y) d x
+  str_to_kept zero d x = fault_kept I G prims _
+  str_to_kept (suc n) d x = str_with_kept (suc n) n _ (str_to_kept n) d x
 
   pub to_str_kept : (x : Value) → Kept I G (shown.to_str x)
   unfolding shown.to_str
