@@ -120,7 +120,7 @@ fn give(s: &mut Session, o: ObjRef, name: &str, v: Value) -> Result<(), NoMemory
     s.m.heap.store(&Loc::Attr(o, name), Some(v))
 }
 
-fn family(s: &mut Session) -> Result<Family, NoMemory> {
+fn relatives(s: &mut Session) -> Result<Family, NoMemory> {
     let name = symbol(s, "B")?;
     let base = s.m.heap.new_class(name, None)?;
     give(s, base, "g", Value::Int(1))?;
@@ -138,7 +138,7 @@ fn family(s: &mut Session) -> Result<Family, NoMemory> {
 
 fn looked_up(a: Global, words: &str, name: &str) -> Result<Ran, NoMemory> {
     let mut s = Session::new(a)?;
-    let them = family(&mut s)?;
+    let them = relatives(&mut s)?;
     let other = s.value(words)?;
     let v = match words {
         "object" => &them.object,
