@@ -1,4 +1,6 @@
 pub mod EqualLaws
+pub mod OrderLaws
 mod RangeLaws
 pub mod RunsLaws
+pub mod SortLaws
 pub mod WalkLaws
