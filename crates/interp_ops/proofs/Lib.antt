@@ -1,4 +1,5 @@
 pub mod EqualLaws
+pub mod IdentityLaws
 pub mod OrderLaws
 mod RangeLaws
 pub mod RunsLaws

@@ -123,7 +123,7 @@ some_together (y ∷ xs) x some is =
 
 none_left : (ys : List Value) → one_list (Some done) (kinds_of_values ys) ≡ (length ys == 0)
 none_left [] = refl
-none_left (y ∷ ys) = done_more (kind_of_value y) (kinds_of_values ys)
+none_left (y ∷ ys) = done_more (kind_of_value y) (kinds_of_values ys) ∙ grind arith
 
 pub all_used : (xs ys : List Value) (n : ℕ) → length xs ≤ n → one_list (kinds_of_values (drop n xs)) (kinds_of_values ys) ≡ (length ys == 0)
 all_used [] ys zero past = none_left ys
