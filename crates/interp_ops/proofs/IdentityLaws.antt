@@ -1,8 +1,7 @@
 -- Identity holds exactly where two values stand for the same tree.
-use Rattle.std.proofs.Common.{◌≡◌, ◌&&◌, ◌==◌, ℕ, ℤ, Bool, true, false, not, List, [], ◌∷◌, map, refl, sym, ap, subst, ◌∙◌, eqb-true, eq-eqb}
+use Rattle.std.proofs.Common.{◌≡◌, ◌&&◌, ◌==◌, ℕ, Bool, true, false, not, List, [], ◌∷◌, map, refl, sym, ap, subst, ◌∙◌, eqb-true, eq-eqb}
 use Rattle.std.specs.Ordering.{int_eq}
-use Rattle.std.specs.Str.{bytes_eq}
-use Rattle.std.proofs.lemmas.Bool.{false≢true, true≢false, and_parts, and_from}
+use Rattle.std.proofs.lemmas.Bool.{false≢true, and_parts, and_from}
 use Rattle.std.proofs.lemmas.Bool.Decides.{Decides-int_eq}
 use Rattle.std.proofs.lemmas.Slice.Eq.{bytes_eq-Decides}
 use Rattle.flow_base.specs.declared.numbers.ObjRef.{ObjRef}
@@ -11,7 +10,7 @@ use Rattle.heap_objects.specs.Tree as tree
 use Rattle.heap_objects.specs.Tree.{Tree, Trees, more, tree_of, tree_step, trees_of}
 use Rattle.heap_objects.specs.declared.value.Value.{Value, out-Value, roll-Value}
 use Rattle.heap_objects.specs.declared.value.Value.TheFolds.{fold-roll-Value, ind-Value, map-Value}
-use Rattle.heap_objects.specs.declared.value.Value.TheViews.{out-roll-Value, roll-out-Value}
+use Rattle.heap_objects.specs.declared.value.Value.TheViews.{roll-out-Value}
 use Rattle.heap_objects.specs.declared.value.Value.TheOpen as v
 use Rattle.heap_objects.specs.declared.value.Value.TheOpen.{Value-F}
 use Rattle.interp_ops.specs.Truths.{all_pass, identical, passes}
@@ -30,15 +29,9 @@ same_two {A} {B} {C} make a c b d e f = ap (λ (x : A). make x b) e ∙ ap (make
 same_three : {A B : Type 0} (make : A → A → A → B) (a b c x y z : A) → a ≡ x → b ≡ y → c ≡ z → make a b c ≡ make x y z
 same_three {A} {B} make a b c x y z e f g = ap (λ (t : A). make t b c) e ∙ ap (λ (t : A). make x t c) f ∙ ap (make x y) g
 
-same_truth : (a b : Bool) → passes (v.Truth a) (v.Truth b) ≡ true → a ≡ b
-same_truth true true e = refl
-same_truth true false e = absurd (false≢true e)
-same_truth false true e = absurd (false≢true e)
-same_truth false false e = refl
-
-truth_itself : (a : Bool) → passes (v.Truth a) (v.Truth a) ≡ true
-truth_itself true = refl
-truth_itself false = refl
+not_true : (b : Bool) → not b ≡ true → b ≡ false
+not_true true e = absurd (false≢true e)
+not_true false e = refl
 
 -- the test of a value that is given by its level, and its tree
 identical-roll : (x : Value-F Value) (b : Value) → identical (roll-Value x) b ≡ passes (map-Value Value (Value → Bool) identical x) (out-Value b)
@@ -71,14 +64,15 @@ all_same (p ∷ ps) (x ∷ xs) e =
 level_same : (y : Value-F Known) (x : Value-F Value) → passes (map-Value Value (Value → Bool) identical (map-Value Known Value (λ e. e.0) y)) x ≡ true
     → tree_step (map-Value Value Tree tree_of (map-Value Known Value (λ e. e.0) y)) ≡ tree_step (map-Value Value Tree tree_of x)
 level_same v.Nil v.Nil e = refl
-level_same (v.Truth a) (v.Truth b) e = ap tree.truth (same_truth a b e)
+level_same (v.Truth true) (v.Truth b) e = ap tree.truth (sym e)
+level_same (v.Truth false) (v.Truth b) e = ap tree.truth (sym (not_true b e))
 level_same (v.Int m) (v.Int n) e = ap tree.int ((Decides-int_eq m n).0 e)
 level_same (v.Text s) (v.Text t) e = ap tree.text ((bytes_eq-Decides s t).0 e)
 level_same (v.Tuple ps kept) (v.Tuple xs depth) e = ap tree.tuple (all_same ps xs e)
 level_same (v.Range a b c) (v.Range x y z) e =
-    let first = and_parts (int_eq a x) (int_eq b y && int_eq c z) e in
-    let rest = and_parts (int_eq b y) (int_eq c z) first.1 in
-    same_three tree.range a b c x y z ((Decides-int_eq a x).0 first.0) ((Decides-int_eq b y).0 rest.0) ((Decides-int_eq c z).0 rest.1)
+    let last = and_parts (int_eq a x && int_eq b y) (int_eq c z) e in
+    let first = and_parts (int_eq a x) (int_eq b y) last.0 in
+    same_three tree.range a b c x y z ((Decides-int_eq a x).0 first.0) ((Decides-int_eq b y).0 first.1) ((Decides-int_eq c z).0 last.1)
 level_same (v.Builtin f) (v.Builtin g) e = ap tree.builtin (same_symbol f g e)
 level_same (v.Obj o) (v.Obj p) e = ap tree.obj (same_object o p e)
 level_same (v.Bound f o) (v.Bound g p) e =
@@ -118,7 +112,8 @@ level_alike : (y : Value-F Passing) (x : Value-F Value)
     → tree_step (map-Value Value Tree tree_of (map-Value Passing Value (λ e. e.0) y)) ≡ tree_step (map-Value Value Tree tree_of x)
     → passes (map-Value Value (Value → Bool) identical (map-Value Passing Value (λ e. e.0) y)) x ≡ true
 level_alike v.Nil v.Nil e = refl
-level_alike (v.Truth a) (v.Truth b) e = let same : a ≡ b = cc in subst (λ (c : Bool). passes (v.Truth a) (v.Truth c) ≡ true) same (truth_itself a)
+level_alike (v.Truth true) (v.Truth b) e = let same : b ≡ true = cc in same
+level_alike (v.Truth false) (v.Truth b) e = let same : b ≡ false = cc in ap not same
 level_alike (v.Int m) (v.Int n) e = let same : m ≡ n = cc in (Decides-int_eq m n).1 same
 level_alike (v.Text s) (v.Text t) e = let same : s ≡ t = cc in (bytes_eq-Decides s t).1 same
 level_alike (v.Tuple ps kept) (v.Tuple xs depth) e =
@@ -127,8 +122,8 @@ level_alike (v.Range a b c) (v.Range x y z) e =
     let first : a ≡ x = cc in
     let second : b ≡ y = cc in
     let third : c ≡ z = cc in
-    and_from (int_eq a x) (int_eq b y && int_eq c z) ((Decides-int_eq a x).1 first)
-    (and_from (int_eq b y) (int_eq c z) ((Decides-int_eq b y).1 second) ((Decides-int_eq c z).1 third))
+    and_from (int_eq a x && int_eq b y) (int_eq c z)
+    (and_from (int_eq a x) (int_eq b y) ((Decides-int_eq a x).1 first) ((Decides-int_eq b y).1 second)) ((Decides-int_eq c z).1 third)
 level_alike (v.Builtin f) (v.Builtin g) e = let same : f ≡ g = cc in eq-eqb f.0 g.0 (ap (λ (s : Sym). s.0) same)
 level_alike (v.Obj o) (v.Obj p) e = let same : o ≡ p = cc in eq-eqb o.0 p.0 (ap (λ (r : ObjRef). r.0) same)
 level_alike (v.Bound f o) (v.Bound g p) e =

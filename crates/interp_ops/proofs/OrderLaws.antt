@@ -1,5 +1,5 @@
 -- Levels of the order, and tests from a place on, one by one.
-use Rattle.std.proofs.Common.{◌≡◌, ◌≢◌, ◌-◌, ◌<◌, ℕ, zero, suc, Bool, true, false, Option, Some, None, Result, Ok, Err, refl, arith}
+use Rattle.std.proofs.Common.{◌≡◌, ◌≢◌, ◌-◌, ◌<◌, ℕ, zero, suc, Bool, false, Option, Some, None, Ok, Err, refl, arith}
 use Rattle.heap_objects.specs.declared.value.Value.{Value}
 use Rattle.interp_ops.specs.Equality.{equal_below}
 use Rattle.interp_ops.specs.Meaning.{M}

@@ -1,5 +1,5 @@
 -- The order of values, and which values are sorted together.
-use Rattle.std.specs.Prelude.{◌≡◌, ◌==◌, ◌&&◌, ◌||◌, ℕ, zero, suc, min, ℤ, Bool, true, false, nat_lt, nat_le, int_lt, int_le, List, [], ◌∷◌, map, Option, Some, None}
+use Rattle.std.specs.Prelude.{◌≡◌, ◌&&◌, ℕ, zero, suc, min, ℤ, Bool, true, false, nat_lt, nat_le, int_lt, int_le, List, [], ◌∷◌, map, Option, Some, None}
 use Rattle.std.specs.Cmp.Lexicographic.{slice_cmp}
 use Rattle.std.specs.List.{AllByRecursion}
 use Rattle.std.specs.Ordering.{is_lt, is_le, nat_cmp}

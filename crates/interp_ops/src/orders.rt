@@ -83,11 +83,7 @@ fn count_before(same: bool, x: usize, y: usize) -> bool
 fn is_before(same: bool, order: Ordering) -> bool
     ensures { result ≡ spec.cmp_before same order }
 {
-    if same {
-        order.is_le()
-    } else {
-        order.is_lt()
-    }
+    if same { order.is_le() } else { order.is_lt() }
 }
 
 #[cycle(less)]

@@ -1,4 +1,4 @@
-use Rattle.std.proofs.Common.{◌≡◌, ◌∙◌, sym}
+use Rattle.std.proofs.Common.{◌∙◌, sym}
 use Rattle.interp_ops.proofs.SortLaws.{all_used}
 use Rattle.interp_ops.proofs.orders.+kinds.Goals as goal
 

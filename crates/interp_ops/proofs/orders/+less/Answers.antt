@@ -20,7 +20,7 @@ pub first_from-returns-in-Some : goal.first_from-returns-in-Some
 first_from-returns-in-Some t c =
     let some : c.loop-left.left ≢ 0 = omega arith in
     let given : decided_at (equal_below c.args.levels) (less_below c.args.levels) c.args.pair.now c.loop-left.at c.loop-left.m
-        ≡ (Ok (Some c.in-Some.answer), c.decided_at.new.m) = search rules in
+    ≡ (Ok (Some c.in-Some.answer), c.decided_at.new.m) = search rules in
     c.loop-left.invariant.meaning ∙ first_from_ends _ _ _ _ _ _ _ some given
 
 pub first_from-loop-left-preserved : goal.first_from-loop-left-preserved
@@ -28,8 +28,9 @@ first_from-loop-left-preserved t c =
     let some : c.loop-left.left ≢ 0 = omega arith in
     let given : decided_at (equal_below c.args.levels) (less_below c.args.levels) c.args.pair.now c.loop-left.at c.loop-left.m ≡ (Ok None, c.decided_at.new.m) = search rules in
     record {
-        meaning = c.loop-left.invariant.meaning ∙ rw add-one (first_from_more _ _ _ _ _ _ some given);
-        ends = omega arith }
+      meaning = c.loop-left.invariant.meaning ∙ rw add-one (first_from_more _ _ _ _ _ _ some given);
+      ends = omega arith;
+    }
 
 pub first_from-returns : goal.first_from-returns
 first_from-returns t c =

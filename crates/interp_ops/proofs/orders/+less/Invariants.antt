@@ -26,9 +26,10 @@ decreases-less_with l = l.levels * 8 + 6
 
 abbrev pub invariant-first_from-loop-left : goal.invariant-first_from-loop-left
 invariant-first_from-loop-left l = record {
-    meaning : first_from (decided_at (equal_below l.levels) (less_below l.levels) l.pair) 0 l.count l.otherwise l.fn.m
-        ≡ first_from (decided_at (equal_below l.levels) (less_below l.levels) l.pair) l.at l.left l.otherwise l.m;
-    ends : l.at + l.left ≡ l.count }
+  meaning : first_from (decided_at (equal_below l.levels) (less_below l.levels) l.pair) 0 l.count l.otherwise l.fn.m
+      ≡ first_from (decided_at (equal_below l.levels) (less_below l.levels) l.pair) l.at l.left l.otherwise l.m;
+  ends : l.at + l.left ≡ l.count;
+}
 
 abbrev pub decreases-first_from-loop-left : goal.decreases-first_from-loop-left
 decreases-first_from-loop-left l = l.left

@@ -1,4 +1,3 @@
-use Rattle.std.proofs.Common.{◌≡◌, sym}
 use Rattle.interp_ops.proofs.SortLaws.{none_together, some_together}
 use Rattle.interp_ops.proofs.orders.sorts_together.Goals as goal
 
