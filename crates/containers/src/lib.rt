@@ -1,4 +1,4 @@
-//! What a session is kept in: a list that grows at its end, a table by the names of cells, and the values of names.
+//! What a session is kept in: a list that grows at its end, a table by names, and the values of names.
 #![tactic(auto)]
 
 mod sequence;

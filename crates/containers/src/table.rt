@@ -1,4 +1,4 @@
-// What is kept for each cell.
+// What is kept under texts.
 ghost use Rattle.std.specs.Prelude.{◌≡◌, OnOk, OnErr};
 ghost use Rattle.std.specs.Option.{option_copied};
 ghost use Rattle.std.specs.FinMap as map;
@@ -8,8 +8,8 @@ use std::alloc::Global;
 use std::collections::BTreeMap;
 use std::marker::Model;
 
-/// A value for each cell that has one. Contracts see the finite map from the names of the cells, in the order of their
-/// code points.
+/// A value for each name that has one: that of a cell, or one in a cell. Contracts see the finite map from the names, in the order of
+/// their code points.
 #[derive(Drop)]
 pub struct Table<V> {
     alloc: Global,
@@ -31,7 +31,7 @@ impl<V> Model for Table<V> {
 }
 
 impl<V> Table<V> {
-    /// A table without cells. Takes no memory.
+    /// A table without names. Takes no memory.
     pub fn new(alloc: Global) -> Table<V>
         ensures { result ≡ map.empty }
     {
@@ -41,7 +41,7 @@ impl<V> Table<V> {
         }
     }
 
-    /// What is kept for a cell, and `None` where nothing is. Takes no memory.
+    /// What is kept for a name, and `None` where nothing is. Takes no memory.
     pub fn get(&self, cell: &PyText) -> Option<&V>
         ensures { option_copied result ≡ map.get self.now cell.now }
     {
@@ -50,7 +50,7 @@ impl<V> Table<V> {
 }
 
 impl<V: Drop> Table<V> {
-    /// Keeps a value for a cell, in place of an earlier one. Where memory is wanting, the table stays as it was.
+    /// Keeps a value for a name, in place of an earlier one. Where memory is wanting, the table stays as it was.
     pub fn set(&mut self, cell: &PyText, value: V) -> Result<(), NoMemory>
         ensures ok { OnOk result (self.new ≡ map.insert self.old cell.now value) }
         ensures err { OnErr result (self.new ≡ self.old) }

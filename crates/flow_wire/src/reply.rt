@@ -33,8 +33,8 @@ pub struct UnknownText {
 pub enum MarkText {
     /// It reads no value that rests on one overwritten since.
     Clean,
-    /// It reads `symbol`, computed by the run `computed` from `dep`, which the run `overwritten` wrote again later. Runs
-    /// are numbered from 1.
+    /// It reads `symbol`. The run `computed` computed its value, or one on which that rests, from `dep`, which the run
+    /// `overwritten` wrote again later. Runs are numbered from 1.
     Stale {
         computed: u64,
         dep: PyText,

@@ -1,5 +1,6 @@
 pub mod Equality
 pub mod Kinds
+pub mod Later
 pub mod Lookups
 pub mod Making
 pub mod Meaning

@@ -1,5 +1,5 @@
 -- Attributes of values.
-use Rattle.std.specs.Prelude.{◌==◌, ℕ, zero, suc, Bool, true, false, nat_le, List, [], ◌∷◌, length, Option, Some, None, if◌then◌else◌}
+use Rattle.std.specs.Prelude.{ℕ, zero, suc, Bool, true, false, nat_le, length, Option, Some, None, if◌then◌else◌}
 use Rattle.exceptions_core.specs.declared.class.ExcClass.{ExcClass}
 use Rattle.exceptions_core.specs.declared.error.FaultKind.TheVariants as error
 use Rattle.flow_base.specs.declared.loc.Loc.TheVariants as loc
@@ -18,7 +18,6 @@ use Rattle.interp_ops.specs.Meaning.{M, ◌>>=◌, pure, fault, fault_named, fix
 use Rattle.interp_ops.specs.Symbols.{class_of_symbol, dict_methods, is_among, list_methods, text_methods, tuple_methods}
 use Rattle.interp_ops.specs.declared.kinds.Kind.{Kind}
 use Rattle.interp_ops.specs.declared.kinds.Kind.TheVariants as k
-use Rattle.interp_ops.specs.declared.machine.Machine.{Machine}
 
 -- ---- classes and the classes above them
 
@@ -44,17 +43,26 @@ abbrev pub exception_in : (Option Value → Option ExcClass) → State → Optio
 exception_in above s None = None
 exception_in above s (Some x) = exception_at above s (out-Value x)
 
--- the exception class that a class is, or the first one above it, with at most so many classes between; the bases of a class were made
--- before it, so that there are fewer of them than objects
+-- the exception class that a class is, or the first one above it, among at most so many classes
 abbrev pub exception_above : State → ℕ → Option Value → Option ExcClass
-exception_above s zero x = exception_in (λ _. None) s x
+exception_above s zero x = None
 exception_above s (suc n) x = exception_in (exception_above s n) s x
 
--- the built-in exception class that a class is or is below, if it is below Exception
+-- the built-in exception class that a class is or is below, if it is below Exception; the bases of a class were made before it, so that
+-- there are fewer of them than objects
 abbrev pub exception_of : State → Value → Option ExcClass
-exception_of s class = exception_above s (length s.nodes) (Some class)
+exception_of s class = exception_at (exception_above s (length s.nodes)) s (out-Value class)
 
 -- ---- lookups
+
+-- a function found in a class becomes a bound method of the instance
+abbrev pub bound_if : ObjRef → Value → ObjRef → Option Object → Value
+bound_if receiver x f (Some (object.Function name code defaults parent)) = roll-Value (v.Bound f receiver)
+bound_if receiver x f _ = x
+
+abbrev pub bound_at : ObjRef → Value → Value-F Value → M Value
+bound_at receiver x (v.Obj f) = fixed f >>= λ o. pure (bound_if receiver x f o)
+bound_at receiver x _ = pure x
 
 module _ (a : Sym) where
   abbrev pub found_or : (Option Value → M (Option Value)) → ObjRef → Option Value → M (Option Value)
@@ -78,15 +86,6 @@ module _ (a : Sym) where
   or_missing (Some x) = pure x
   or_missing None = fault_named error.Attribute a
 
-  abbrev pub bound_if : ObjRef → Value → ObjRef → Option Object → Value
-  bound_if receiver x f (Some (object.Function name code defaults parent)) = roll-Value (v.Bound f receiver)
-  bound_if receiver x f _ = x
-
-  abbrev pub bound_at : ObjRef → Value → Value-F Value → M Value
-  bound_at receiver x (v.Obj f) = fixed f >>= λ o. pure (bound_if receiver x f o)
-  bound_at receiver x _ = pure x
-
-  -- a function found in a class becomes a bound method of the instance
   abbrev pub bind : ObjRef → Option Value → M Value
   bind receiver None = fault_named error.Attribute a
   bind receiver (Some x) = bound_at receiver x (out-Value x)

@@ -1,5 +1,5 @@
 -- Arithmetic operators, joining and repeating, and membership.
-use Rattle.std.specs.Prelude.{◌++◌, ◌+ℤ◌, ◌-ℤ◌, ◌*ℤ◌, neg_ℤ, ℕ, zero, suc, ℤ, pos, negsuc, Bool, true, false, List, [], ◌∷◌, length, Option, Some, None, is_some, Result, Ok, Err}
+use Rattle.std.specs.Prelude.{◌++◌, ◌+ℤ◌, ◌-ℤ◌, ◌*ℤ◌, neg_ℤ, ℕ, zero, suc, ℤ, pos, negsuc, Bool, true, false, List, [], length, Option, Some, None, is_some, Result, Ok, Err}
 use Rattle.std.specs.Int.{int_pow}
 use Rattle.exceptions_core.specs.declared.error.FaultKind.TheVariants as error
 use Rattle.flow_base.specs.declared.key.Key.{Key}
@@ -61,6 +61,11 @@ sum_of Others = fault error.Kind
 abbrev pub repeated : {A : Type 0} → ℕ → List A → List A
 repeated zero xs = []
 repeated (suc n) xs = xs ++ repeated n xs
+
+-- how many turns that takes for a list of a length: an empty one takes none
+abbrev pub turns : ℕ → ℕ → ℕ
+turns zero n = 0
+turns (suc len) n = n
 
 abbrev pub product_of : Product → M Value
 product_of (p.Numbers x y) = answered (exact (x *ℤ y))

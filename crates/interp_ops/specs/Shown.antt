@@ -62,9 +62,11 @@ abbrev pub builtin_text : List (List ℕ) → Sym → List ℕ
 builtin_text names f = if is_builtin_class f then class_text (text_of names f) else codes "<built-in " ++ text_of names f ++ codes ">"
 
 -- the step stands there where it is not 1
+abbrev pub step_text : ℤ → List ℕ
+step_text c = if int_eq c (pos 1) then [] else codes ", " ++ signed_decimal c
+
 abbrev pub range_text : ℤ → ℤ → ℤ → List ℕ
-range_text a b c =
-    codes "range(" ++ signed_decimal a ++ codes ", " ++ signed_decimal b ++ (if int_eq c (pos 1) then [] else codes ", " ++ signed_decimal c) ++ codes ")"
+range_text a b c = codes "range(" ++ signed_decimal a ++ codes ", " ++ signed_decimal b ++ step_text c ++ codes ")"
 
 abbrev pub name_in : Option Object → Option Sym
 name_in (Some (object.Class name base)) = Some name
@@ -138,40 +140,53 @@ args_of o = load (loc.Attr o args_symbol) >>= λ x. pure (tuple_parts x)
 abbrev pub Shower : Type 0
 Shower = List ObjRef → List ℕ → Value → M (List ℕ)
 
+-- a text that is not visited takes a step for each of its code points
+abbrev pub plain : List ℕ → List ℕ → M (List ℕ)
+plain d t = steps (length t) >> pure (d ++ t)
+
 abbrev pub ends_with : List ℕ → List ℕ → M (List ℕ)
 ends_with word d = pure (d ++ word)
 
-module _ (below : Shower) (inside : List ObjRef) where
-  abbrev pub show_part : (Walker → List ℕ → List ℕ → M (List ℕ)) → List ℕ → List ℕ → Option Value × Walker → M (List ℕ)
-  show_part more comma d (None, w) = pure d
-  show_part more comma d (Some x, w) = below inside (d ++ comma) x >>= more w (codes ", ")
+-- between parts
+abbrev pub comma : Bool → List ℕ
+comma false = []
+comma true = codes ", "
 
-  -- the parts of a walk with a comma and a space between them, in at most so many turns
-  abbrev pub show_parts : ℕ → Walker → List ℕ → List ℕ → M (List ℕ)
-  show_parts zero w comma d = stop_with stop.Steps
-  show_parts (suc n) w comma d = next w >>= show_part (show_parts n) comma d
+module _ (below : Shower) (inside : List ObjRef) where
+  -- a part, with a comma and a space before it where it follows another one
+  abbrev pub show_next : Bool → List ℕ → Value → M (List ℕ)
+  show_next follows d x = below inside (d ++ comma follows) x
+
+  abbrev pub show_part : (Walker → Bool → List ℕ → M (List ℕ)) → Bool → List ℕ → Option Value × Walker → M (List ℕ)
+  show_part more follows d (None, w) = pure d
+  show_part more follows d (Some x, w) = show_next follows d x >>= more w true
+
+  -- the parts of a walk, in at most so many turns
+  unfoldable pub show_parts : ℕ → Walker → Bool → List ℕ → M (List ℕ)
+  show_parts zero w follows d = stop_with stop.Steps
+  show_parts (suc n) w follows d = next w >>= show_part (show_parts n) follows d
 
   -- each part costs a step, so that one turn more than the steps that are left is enough
   unfoldable pub show_walk : Walker → List ℕ → M (List ℕ)
-  show_walk w d m = show_parts (suc m.left) w [] d m
+  show_walk w d m = show_parts (suc m.left) w false d m
 
   -- the item is used, and takes its step; then the key stands before the value
+  abbrev pub show_pair : List ℕ → Value → Option Value → M (List ℕ)
+  show_pair d key None = pure d
+  show_pair d key (Some x) = steps 1 >> (below inside d key >>= λ e. below inside (e ++ codes ": ") x)
+
   abbrev pub show_item : ObjRef → List ℕ → Value → Option Key → M (List ℕ)
   show_item o d key None = pure d
-  show_item o d key (Some k) = load (loc.Item o k) >>= show_pair
-    where
-      show_pair : Option Value → M (List ℕ)
-      show_pair None = pure d
-      show_pair (Some x) = steps 1 >> (below inside d key >>= λ e. below inside (e ++ codes ": ") x)
+  show_item o d key (Some k) = load (loc.Item o k) >>= show_pair d key
 
   abbrev pub show_entry : ObjRef → List ℕ → Option Value → M (List ℕ)
   show_entry o d None = pure d
   show_entry o d (Some key) = show_item o d key (key_if (Some key))
 
   -- so many entries of a dictionary from a place on
-  abbrev pub show_entries : ObjRef → ℕ → ℕ → List ℕ → List ℕ → M (List ℕ)
-  show_entries o i zero comma d = pure d
-  show_entries o i (suc n) comma d = key_at o i >>= show_entry o (d ++ comma) >>= show_entries o (suc i) n (codes ", ")
+  unfoldable pub show_entries : ObjRef → ℕ → ℕ → Bool → List ℕ → M (List ℕ)
+  show_entries o i zero follows d = pure d
+  show_entries o i (suc n) follows d = key_at o i >>= show_entry o (d ++ comma follows) >>= show_entries o (suc i) n true
 
 -- a tuple of one has a comma behind it
 abbrev pub tuple_end : List Value → List ℕ
@@ -183,34 +198,28 @@ Arguments = List ObjRef → List ℕ → List Value → M (List ℕ)
 
 module _ (below : Shower) (arguments : Arguments) (inside : List ObjRef) (d : List ℕ) where
   abbrev pub show_form : Form → M (List ℕ)
-  show_form (Plain t) = steps (length t) >> pure (d ++ t)
+  show_form (Plain t) = plain d t
   show_form (AList o) = show_walk below (o ∷ inside) (Items o 0) (d ++ codes "[") >>= ends_with (codes "]")
   show_form (Tuple xs) = show_walk below inside (Parts xs 0) (d ++ codes "(") >>= ends_with (tuple_end xs)
-  show_form (Dict o) = shape Use o >>= λ n. show_entries below (o ∷ inside) o 0 n [] (d ++ codes "{") >>= ends_with (codes "}")
+  show_form (Dict o) = shape Use o >>= λ n. show_entries below (o ∷ inside) o 0 n false (d ++ codes "{") >>= ends_with (codes "}")
   show_form (Error o name) = args_of o >>= λ xs. arguments (o ∷ inside) (d ++ name ++ codes "(") xs >>= ends_with (codes ")")
 
   unfoldable pub show_with : Value → M (List ℕ)
   show_with x = form inside x >>= show_form
 
-abbrev pub too_deep : Shower
-too_deep inside d x = fault error.Depth
-
-abbrev pub no_arguments : Arguments
-no_arguments inside d xs = fault error.Depth
-
--- with so many levels left below this one; the arguments of an exception are one level below it, and their parts one further
+-- where so many levels may be open, this one counted; the arguments of an exception are one level, and their parts the one below it
 unfoldable mutual
   pub show_to : ℕ → Shower
-  show_to zero inside d x = show_with too_deep no_arguments inside d x
+  show_to zero inside d x = fault error.Depth
   show_to (suc n) inside d x = show_with (show_to n) (arguments_to n) inside d x
 
   pub arguments_to : ℕ → Arguments
-  arguments_to zero inside d xs = show_walk too_deep inside (Parts xs 0) d
+  arguments_to zero inside d xs = fault error.Depth
   arguments_to (suc n) inside d xs = show_walk (show_to n) inside (Parts xs 0) d
 
 -- `repr(x)`
 unfoldable pub show : Value → M (List ℕ)
-show x m = show_to (levels_left m) [] [] x m
+show x m = show_to (suc (levels_left m)) [] [] x m
 
 -- ---- Str
 
@@ -226,40 +235,40 @@ exception class m = (Ok (exception_of m.heap class), m)
 abbrev pub Teller : Type 0
 Teller = List ℕ → Value → M (List ℕ)
 
-module _ (below below_shown : Teller) (below_tuple : List ℕ → List Value → M (List ℕ)) (shown : Teller) (d : List ℕ) where
-  -- no arguments give no text, one gives its own, and several that of their tuple
+-- the tuple of the arguments of an exception, where so many levels may be open, this one counted
+abbrev pub tuple_to : ℕ → List ℕ → List Value → M (List ℕ)
+tuple_to n d xs = arguments_to n [] (d ++ codes "(") xs >>= ends_with (tuple_end xs)
+
+-- no arguments give no text, one gives its own, which is shown for a KeyError, and several that of their tuple
+module _ (below : ℕ) (told : Teller) (d : List ℕ) where
+  abbrev pub str_one : Bool → Value → M (List ℕ)
+  str_one true x = show_to below [] d x
+  str_one false x = told d x
+
   abbrev pub str_arguments : Bool → List Value → M (List ℕ)
   str_arguments keyed [] = pure d
-  str_arguments true (x ∷ []) = below_shown d x
-  str_arguments false (x ∷ []) = below d x
-  str_arguments keyed xs = below_tuple d xs
+  str_arguments keyed (x ∷ []) = str_one keyed x
+  str_arguments keyed xs = tuple_to below d xs
 
+-- where so many levels may be open, this one counted, and so many below this one, in which that is told
+module _ (n below : ℕ) (told : Teller) (d : List ℕ) where
   abbrev pub str_instance : Value → ObjRef → Option ExcClass → M (List ℕ)
-  str_instance x o None = shown d x
-  str_instance x o (Some c) = args_of o >>= str_arguments (is_key_error c)
+  str_instance x o None = show_to n [] d x
+  str_instance x o (Some c) = args_of o >>= str_arguments below told d (is_key_error c)
 
   abbrev pub str_of : Value → Kind → M (List ℕ)
-  str_of x (k.Text t) = steps (length t) >> pure (d ++ t)
+  str_of x (k.Text t) = plain d t
   str_of x (k.Instance o class) = exception class >>= str_instance x o
-  str_of x _ = shown d x
+  str_of x _ = show_to n [] d x
 
   unfoldable pub str_with : Value → M (List ℕ)
   str_with x = kind x >>= str_of x
 
-abbrev pub refuse : Teller
-refuse d x = fault error.Depth
-
-abbrev pub refuse_tuple : List ℕ → List Value → M (List ℕ)
-refuse_tuple d xs = fault error.Depth
-
-abbrev pub tuple_to : ℕ → List ℕ → List Value → M (List ℕ)
-tuple_to n d xs = arguments_to n [] (d ++ codes "(") xs >>= ends_with (tuple_end xs)
-
--- with so many levels left below this one; the argument of an exception, or the tuple of its arguments, is one level below it
+-- where so many levels may be open, this one counted; the argument of an exception, or the tuple of its arguments, is the one below it
 unfoldable pub str_to : ℕ → Teller
-str_to zero d x = str_with refuse refuse refuse_tuple (show_to 0 []) d x
-str_to (suc n) d x = str_with (str_to n) (show_to n []) (tuple_to n) (show_to (suc n) []) d x
+str_to zero d x = fault error.Depth
+str_to (suc n) d x = str_with (suc n) n (str_to n) d x
 
 -- `str(x)`
 unfoldable pub to_str : Value → M (List ℕ)
-to_str x m = str_to (levels_left m) [] x m
+to_str x m = str_to (suc (levels_left m)) [] x m

@@ -1,7 +1,8 @@
 -- Items of values: read, stored and deleted.
-use Rattle.std.specs.Prelude.{◌-◌, ◌+◌, ◌+ℤ◌, ◌*ℤ◌, ◌++◌, ℕ, zero, suc, ℤ, pos, negsuc, Bool, true, false, nat_lt, List, [], ◌∷◌, length, drop, Option, Some, None, option_map, slice_get, if◌then◌else◌}
+use Rattle.std.specs.Prelude.{◌-◌, ◌+ℤ◌, ◌*ℤ◌, ◌++◌, ℕ, zero, suc, ℤ, pos, negsuc, Bool, true, false, nat_lt, List, [], ◌∷◌, length, drop, Option, Some, None, option_map, slice_get, if◌then◌else◌}
 use Rattle.exceptions_core.specs.declared.class.ExcClass.TheVariants.{KeyError}
 use Rattle.exceptions_core.specs.declared.error.FaultKind.TheVariants as error
+use Rattle.flow_base.specs.declared.event.ReadHow.{ReadHow}
 use Rattle.flow_base.specs.declared.event.ReadHow.TheVariants.{Use, Place}
 use Rattle.flow_base.specs.declared.key.Key.{Key}
 use Rattle.flow_base.specs.declared.loc.Loc.TheVariants as loc
@@ -15,7 +16,7 @@ use Rattle.interp_ops.specs.Kinds.{kind}
 use Rattle.interp_ops.specs.Meaning.{M, ◌>>=◌, ◌>>◌, pure, dict_put, dict_remove, error_with, fault, list_put, list_splice, load, present, raise, shape, steps}
 use Rattle.interp_ops.specs.Walks.{int_value, point_value, range_size}
 use Rattle.interp_ops.specs.declared.kinds.Kind.{Kind}
-use Rattle.interp_ops.specs.declared.kinds.Kind.TheVariants.{Nil, Number, Text, Tuple, Range, List as AList, Dict, Instance, Class, Other}
+use Rattle.interp_ops.specs.declared.kinds.Kind.TheVariants.{Text, Tuple, Range, List as AList, Dict}
 
 -- ---- places
 
@@ -95,10 +96,14 @@ abbrev pub put_item : ObjRef → Value → Option ℕ → M (Unit {0})
 put_item o x None = fault error.Index
 put_item o x (Some i) = list_put o i x
 
+-- how the shape of a list is read where an item of it is stored
+abbrev pub how_of : ℤ → ReadHow
+how_of (pos i) = Place
+how_of (negsuc i) = Use
+
 abbrev pub list_store : ObjRef → Value → Option ℤ → M (Unit {0})
 list_store o x None = fault error.Kind
-list_store o x (Some (pos i)) = shape Place o >>= λ count. put_item o x (place_in count (pos i))
-list_store o x (Some (negsuc i)) = shape Use o >>= λ count. put_item o x (place_in count (negsuc i))
+list_store o x (Some n) = shape (how_of n) o >>= λ count. put_item o x (place_in count n)
 
 abbrev pub dict_store : ObjRef → Value → Value → Option Key → M (Unit {0})
 dict_store d key x None = fault error.Kind

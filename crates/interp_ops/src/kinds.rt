@@ -2,6 +2,7 @@
 ghost use Rattle.std.specs.Prelude.{◌≡◌, IfOk};
 ghost use Rattle.heap_objects.specs.State.{object_at};
 ghost use Rattle.interp_ops.specs.Kinds as spec;
+ghost use Rattle.interp_ops.specs.Operators.{product_with};
 
 use crate::machine::Machine;
 use flow_base::{NoMemory, ObjRef, PyText};
@@ -106,6 +107,33 @@ impl Kind {
                 _ => Pair::Others,
             },
             _ => Pair::Others,
+        }
+    }
+    /// What two values are that are multiplied.
+    pub fn times(self, other: Kind) -> Product
+        ensures { result ≡ product_with self other }
+    {
+        match self {
+            Kind::Number(n) => match other {
+                Kind::Number(x) => Product::Numbers(n, x),
+                Kind::Text(t) => Product::Text(t, n),
+                Kind::Tuple(parts) => Product::Tuple(parts, n),
+                Kind::List(o) => Product::List(o, n),
+                _ => Product::Others,
+            },
+            Kind::Text(t) => match other {
+                Kind::Number(n) => Product::Text(t, n),
+                _ => Product::Others,
+            },
+            Kind::Tuple(parts) => match other {
+                Kind::Number(n) => Product::Tuple(parts, n),
+                _ => Product::Others,
+            },
+            Kind::List(o) => match other {
+                Kind::Number(n) => Product::List(o, n),
+                _ => Product::Others,
+            },
+            _ => Product::Others,
         }
     }
 }

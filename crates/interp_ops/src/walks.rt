@@ -120,8 +120,8 @@ fn counted(
     }
 }
 
-// The place after one. Want of memory stands for a place that no list has.
-fn after(i: usize) -> Result<usize, NoMemory>
+/// The place after one. Want of memory stands for a place that no list has.
+pub(crate) fn after(i: usize) -> Result<usize, NoMemory>
     ensures { IfOk result (λ next. next ≡ suc i) }
 {
     i.checked_add(1).ok_or(NoMemory)

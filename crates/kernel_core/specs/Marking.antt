@@ -15,7 +15,7 @@ use Rattle.kernel_core.specs.Lineage.{version_now}
 
 -- ---- live names
 
--- whether a name is among those that earlier lines bind
+-- whether a name is among those that earlier statements bind
 abbrev pub has_name : {X : Type 0} → FinMap (slice_cmp nat_cmp) X → List ℕ → Bool
 has_name bound name = is_some (get bound name)
 

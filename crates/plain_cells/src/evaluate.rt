@@ -1,6 +1,6 @@
 // What a run of a plain cell does. Each function here gives what its definition gives and leaves the machine as it does, unless memory is
 // wanting.
-ghost use Rattle.std.specs.Prelude.{◌≡◌, ◌+ℤ◌, Some, Ok, IfOk, OnOk};
+ghost use Rattle.std.specs.Prelude.{◌≡◌, Some, Ok, IfOk, OnOk};
 ghost use Rattle.py_ast.specs.Statement.{view_stmt, view_block};
 ghost use Rattle.py_ast.specs.View.{view};
 ghost use Rattle.plain_cells.specs.Run as spec;
@@ -100,16 +100,6 @@ fn store(m: &mut Machine, names: &Names, x: &PyText, v: i128) -> Result<(), Stop
 
 // A sum that an i128 does not hold ends the run at once.
 #[tactic(auto, unfolding(crate::specs::Run::whole))]
-fn whole(m: &Machine, a: i128, b: i128) -> Result<i128, Stop>
-    ensures { Runs (spec.whole (a +ℤ b) m.now) result m.now }
-{
-    let _ = m;
-    match add(a, b) {
-        Ok(n) => Ok(n),
-        Err(_) => Err(Stop::Ended(End::Range)),
-    }
-}
-
 fn eval(m: &mut Machine, names: &Names, e: &Expr) -> Result<i128, Stop>
     ensures { Runs (spec.eval names.now (view e.now) m.old) result m.new }
 {
@@ -126,7 +116,10 @@ fn eval(m: &mut Machine, names: &Names, e: &Expr) -> Result<i128, Stop>
             step(m)?;
             let x = eval(m, names, a.get())?;
             let y = eval(m, names, b.get())?;
-            whole(m, x, y)
+            match add(x, y) {
+                Ok(n) => Ok(n),
+                Err(_) => Err(Stop::Ended(End::Range)),
+            }
         }
         _ => Ok(0),
     }
