@@ -1,5 +1,5 @@
 -- Levels of equality, and tests from a place on, one by one.
-use Rattle.std.proofs.Common.{◌≡◌, ◌≢◌, ◌-◌, ◌<◌, ℕ, zero, suc, Bool, true, false, Result, Ok, Err, refl, arith}
+use Rattle.std.proofs.Common.{◌≡◌, ◌≢◌, ◌-◌, ◌<◌, ℕ, zero, suc, Bool, true, false, Ok, Err, refl, arith}
 use Rattle.heap_objects.specs.declared.value.Value.{Value}
 use Rattle.interp_ops.specs.Equality.{all_from, equal_below, equal_with}
 use Rattle.interp_ops.specs.Meaning.{M}

@@ -1,5 +1,5 @@
 -- Equality of values.
-use Rattle.std.specs.Prelude.{◌==◌, ◌&&◌, ◌||◌, ◌-◌, ℕ, zero, suc, ℤ, Bool, true, false, not, List, [], ◌∷◌, length, Option, Some, None, if◌then◌else◌, slice_get}
+use Rattle.std.specs.Prelude.{◌==◌, ◌&&◌, ◌||◌, ◌-◌, ℕ, zero, suc, ℤ, Bool, true, false, length, Option, Some, None, if◌then◌else◌, slice_get}
 use Rattle.std.specs.Ordering.{int_eq}
 use Rattle.std.specs.Str.{bytes_eq}
 use Rattle.exceptions_core.specs.declared.error.FaultKind.TheVariants as error

@@ -188,7 +188,7 @@ fn part_at(parts: &Values, i: usize) -> Result<Option<Value>, NoMemory>
     }
 }
 
-// Whether two values that are there are equal.
+/// Whether two values that are there are equal.
 #[cycle(equal)]
 pub(crate) fn both_equal(
     m: &mut Machine,

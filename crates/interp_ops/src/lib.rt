@@ -9,6 +9,7 @@ mod errors;
 mod forms;
 mod joining;
 mod kinds;
+mod laws;
 mod lookups;
 mod machine;
 mod making;
@@ -26,6 +27,7 @@ mod walks;
 
 pub use equality::equal;
 pub use errors::{fault, fault_named, raise_with};
+pub use laws::identity_law;
 pub use lookups::lookup;
 pub use machine::{MAX_DEPTH, Machine};
 pub use making::{make_dict, make_list, make_text, make_tuple, tuple};
