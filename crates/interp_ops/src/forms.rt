@@ -9,7 +9,7 @@ ghost use Rattle.interp_ops.specs.declared.forms.Form.TheVariants.{Plain};
 use crate::classes::exception_of;
 use crate::draft::Draft;
 use crate::machine::Machine;
-use crate::symbols::{class_of_symbol, text_of};
+use crate::symbols::{class_of_symbol, is_among, text_of};
 use exceptions_core::ExcClass;
 use flow_base::{NoMemory, ObjRef, PyText, Sym};
 use heap_objects::{Object, Value, Values};
@@ -204,18 +204,6 @@ fn is_builtin_class(f: Sym) -> bool
     ensures { result ≡ spec.is_builtin_class f }
 {
     is_among(&VALUE_CLASSES, f) || class_of_symbol(f).is_some()
-}
-
-// Whether a symbol is one of these.
-fn is_among(numbers: &[u64], s: Sym) -> bool
-    ensures { result ≡ symbols.is_among numbers.now s }
-{
-    for n in numbers {
-        if *n == s.0 {
-            return true;
-        }
-    }
-    false
 }
 
 fn range_text(alloc: Global, start: i128, stop: i128, step: i128) -> Result<PyText, NoMemory>

@@ -5,12 +5,12 @@ ghost use Rattle.heap_objects.specs.State.{object_at};
 ghost use Rattle.heap_objects.specs.declared.value.Value.{out-Value};
 ghost use Rattle.interp_ops.specs.Meaning.{Runs, object_value};
 ghost use Rattle.interp_ops.specs.Lookups as spec;
-ghost use Rattle.interp_ops.specs.Symbols as symbols;
 
 use crate::errors::{fault, fault_named};
 use crate::kinds::Kind;
 use crate::machine::Machine;
 use crate::stop::Stop;
+use crate::symbols::is_among;
 use exceptions_core::FaultKind;
 use flow_base::{Held, Loc, NoMemory, ObjRef, Sym};
 use heap_objects::{NESTING_LIMIT, Object, Value};
@@ -206,15 +206,4 @@ fn method(m: &mut Machine, a: Sym, receiver: &Value, known: bool) -> Result<Valu
         return fault(m, FaultKind::Depth);
     }
     Ok(Value::Method(a, Held::new(m.alloc, receiver.copy()?)?))
-}
-
-fn is_among(numbers: &[u64], s: Sym) -> bool
-    ensures { result ≡ symbols.is_among numbers.now s }
-{
-    for n in numbers {
-        if *n == s.0 {
-            return true;
-        }
-    }
-    false
 }

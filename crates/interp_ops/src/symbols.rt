@@ -173,3 +173,15 @@ pub fn text_of(names: &Names, s: Sym) -> Option<&PyText>
         None
     }
 }
+
+/// Whether a symbol is one of these. Takes no memory.
+pub(crate) fn is_among(numbers: &[u64], s: Sym) -> bool
+    ensures { result ≡ spec.is_among numbers.now s }
+{
+    for n in numbers {
+        if *n == s.0 {
+            return true;
+        }
+    }
+    false
+}
