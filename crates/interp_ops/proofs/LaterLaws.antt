@@ -26,7 +26,7 @@ use Rattle.interp_ops.proofs.Kept.{Kept, Makes, Raises, Reads, Writes, error_of_
 
 -- ---- states
 
-keeps_then : (s t u : State) → Keeps s t → Keeps t u → Keeps s u
+pub keeps_then : (s t u : State) → Keeps s t → Keeps t u → Keeps s u
 keeps_then s t u h k = record {
   count = omega (arith, h.count, k.count);
   objects = λ o lt. k.objects o (omega (arith, h.count)) ∙ h.objects o lt;
