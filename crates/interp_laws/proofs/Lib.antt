@@ -1,0 +1,3 @@
+pub mod AllowedLaws
+pub mod Lawful
+pub mod LawfulOps
