@@ -12,6 +12,3 @@ mod writer;
 
 pub use cells::{is_code, print_cell, print_code};
 pub use laws::{ascii_law, block_law, expression_law, line_law, print_law};
-
-#[cfg(test)]
-mod tests;

@@ -1,10 +1,10 @@
 // Cells printed. Each is written as words that put together its parts, the parts before what they are parts of; the text is that of the
 // rules: parentheses only where the grammar asks for them, one space round operators, four for each block.
-use crate::{is_code, print_cell, print_code};
 use flow_base::{Held, NoMemory, PyText, Shared};
 use py_ast::{
     BinaryOp, Branch, Cell, CompareOp, Expr, Handler, SignOp, Stmt, Stmts, Texts, is_numbered,
 };
+use py_print::{is_code, print_cell, print_code};
 use std::alloc::Global;
 use std::test::Fail;
 
