@@ -5,7 +5,7 @@ use Rattle.exceptions_core.specs.declared.error.FaultKind.TheVariants as error
 use Rattle.heap_objects.specs.Keyed.{key_of}
 use Rattle.heap_objects.specs.Nesting.{kept_nesting, tuple_of}
 use Rattle.heap_objects.specs.declared.value.Value.{Value}
-use Rattle.interp_ops.specs.Meaning.{M, ◌>>=◌, ◌>>◌, pure, fault, nests_over, new_dict, new_list, object_value, steps, text_value}
+use Rattle.interp_machine.specs.Meaning.{M, ◌>>=◌, ◌>>◌, pure, fault, nests_over, new_dict, new_list, object_value, steps, text_value}
 
 -- a list of these items, with a step for each
 unfoldable pub make_list : List Value → M Value

@@ -1,22 +1,18 @@
 // Operators of two operands and of one.
 ghost use Rattle.std.specs.Prelude.{◌≡◌, ◌-ℤ◌, length};
 ghost use Rattle.interp_ops.specs.Making as making;
-ghost use Rattle.interp_ops.specs.Meaning.{Runs, steps};
+ghost use Rattle.interp_machine.specs.Meaning.{Runs, steps};
 ghost use Rattle.interp_ops.specs.Operators as spec;
-ghost use Rattle.interp_ops.specs.Walks as walks;
+ghost use Rattle.interp_machine.specs.Walks as walks;
 ghost use Rattle.interp_ops.specs.declared.operators.BinaryOp.TheVariants.{Add, Sub, Mul, FloorDiv, Mod, Power};
 ghost use Rattle.py_scalars.specs.Exact.{divided, exact, floor_quotient, floor_remainder};
 
-use crate::errors::fault;
 use crate::joining::{joined_texts, joined_values, repeated_text, repeated_values};
-use crate::kinds::{Kind, Pair, Product};
-use crate::machine::Machine;
 use crate::making::{make_list, make_text, make_tuple, tuple};
-use crate::stop::Stop;
-use crate::walks::{Walker, collect};
 use exceptions_core::FaultKind;
 use flow_base::{ObjRef, PyText};
 use heap_objects::{Value, Values};
+use interp_machine::{Kind, Machine, Pair, Stop, Walker, collect, fault};
 use py_scalars::{NumFault, add, floor_div, modulo, mul, power, sub};
 
 /// An arithmetic operator of two operands (Python reference 6.5 and 6.7).
@@ -30,8 +26,18 @@ pub enum BinaryOp {
     Power,
 }
 
+/// What two values are that are multiplied: two numbers, a text, a tuple or a list with a number, or what is left.
+#[derive(Drop)]
+pub enum Product {
+    Numbers(i128, i128),
+    Text(PyText, i128),
+    Tuple(Values, i128),
+    List(ObjRef, i128),
+    Others,
+}
+
 /// The value of an operator of two operands.
-#[tactic(auto, unfolding(crate::specs::Operators::binary, crate::specs::Kinds::pair, crate::specs::Operators::product))]
+#[tactic(auto, unfolding(crate::specs::Operators::binary, interp_machine::specs::Kinds::pair, crate::specs::Operators::product))]
 pub fn binary(m: &mut Machine, op: BinaryOp, a: &Value, b: &Value) -> Result<Value, Stop>
     ensures { Runs (spec.binary op a.now b.now m.old) result m.new }
 {
@@ -39,7 +45,7 @@ pub fn binary(m: &mut Machine, op: BinaryOp, a: &Value, b: &Value) -> Result<Val
     match op {
         BinaryOp::Add => sum(m, x.pair(y)),
         BinaryOp::Sub => difference(m, x.pair(y)),
-        BinaryOp::Mul => product(m, x.times(y)),
+        BinaryOp::Mul => product(m, times(x, y)),
         BinaryOp::FloorDiv => quotient(m, x.pair(y)),
         BinaryOp::Mod => remainder(m, x.pair(y)),
         BinaryOp::Power => raised(m, x.pair(y)),
@@ -117,6 +123,34 @@ fn raised_to(m: &mut Machine, x: i128, y: i128) -> Result<Value, Stop>
         return fault(m, FaultKind::Value);
     }
     answered(m, power(x, y))
+}
+
+// What two values are that are multiplied.
+fn times(first: Kind, second: Kind) -> Product
+    ensures { result ≡ spec.product_with first second }
+{
+    match first {
+        Kind::Number(n) => match second {
+            Kind::Number(x) => Product::Numbers(n, x),
+            Kind::Text(t) => Product::Text(t, n),
+            Kind::Tuple(parts) => Product::Tuple(parts, n),
+            Kind::List(o) => Product::List(o, n),
+            _ => Product::Others,
+        },
+        Kind::Text(t) => match second {
+            Kind::Number(n) => Product::Text(t, n),
+            _ => Product::Others,
+        },
+        Kind::Tuple(parts) => match second {
+            Kind::Number(n) => Product::Tuple(parts, n),
+            _ => Product::Others,
+        },
+        Kind::List(o) => match second {
+            Kind::Number(n) => Product::List(o, n),
+            _ => Product::Others,
+        },
+        _ => Product::Others,
+    }
 }
 
 fn product(m: &mut Machine, two: Product) -> Result<Value, Stop>
@@ -198,7 +232,7 @@ fn answered(m: &mut Machine, n: Result<i128, NumFault>) -> Result<Value, Stop>
 }
 
 /// `-v`
-#[tactic(auto, unfolding(crate::specs::Operators::negate, crate::specs::Kinds::kind))]
+#[tactic(auto, unfolding(crate::specs::Operators::negate, interp_machine::specs::Kinds::kind))]
 pub fn negate(m: &mut Machine, v: &Value) -> Result<Value, Stop>
     ensures { Runs (spec.negate v.now m.old) result m.new }
 {
@@ -209,7 +243,7 @@ pub fn negate(m: &mut Machine, v: &Value) -> Result<Value, Stop>
 }
 
 /// `+v`
-#[tactic(auto, unfolding(crate::specs::Operators::plus, crate::specs::Kinds::kind))]
+#[tactic(auto, unfolding(crate::specs::Operators::plus, interp_machine::specs::Kinds::kind))]
 pub fn plus(m: &mut Machine, v: &Value) -> Result<Value, Stop>
     ensures { Runs (spec.plus v.now m.old) result m.new }
 {
