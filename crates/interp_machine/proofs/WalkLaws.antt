@@ -1,5 +1,5 @@
 -- Walks, turn by turn.
-use Rattle.std.proofs.Common.{◌≡◌, ◌≢◌, ◌-◌, ◌++◌, ◌∷◌, [], ℕ, zero, suc, List, Some, Ok, refl, ap, arith}
+use Rattle.std.proofs.Common.{◌≡◌, ◌≢◌, ◌-◌, ◌++◌, ◌∷◌, [], ℕ, zero, suc, List, Some, Ok, refl, arith}
 use Rattle.heap_objects.specs.declared.value.Value.{Value}
 use Rattle.interp_machine.specs.Walks.{gather, next}
 use Rattle.interp_machine.specs.declared.machine.Machine.{Machine}

@@ -1,5 +1,5 @@
 -- What values are, as the operations tell them apart.
-use Rattle.std.specs.Prelude.{true, false, pos, List, Option, Some, None, Ok}
+use Rattle.std.specs.Prelude.{true, false, pos, Option, Some, Ok}
 use Rattle.flow_base.specs.declared.numbers.ObjRef.{ObjRef}
 use Rattle.heap_objects.specs.State.{State, object_at}
 use Rattle.heap_objects.specs.declared.object.Object.{Object}

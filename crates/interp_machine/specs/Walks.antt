@@ -1,5 +1,5 @@
 -- Walks over the parts of values.
-use Rattle.std.specs.Prelude.{◌==◌, ◌-◌, ◌++◌, ◌+ℤ◌, ℕ, zero, suc, ℤ, pos, negsuc, Bool, true, false, List, [], ◌∷◌, Option, Some, None, option_map, slice_get, if◌then◌else◌}
+use Rattle.std.specs.Prelude.{◌==◌, ◌-◌, ◌++◌, ◌+ℤ◌, ℕ, zero, suc, ℤ, pos, negsuc, List, [], ◌∷◌, Option, Some, None, option_map, slice_get, if◌then◌else◌}
 use Rattle.exceptions_core.specs.declared.error.FaultKind.TheVariants as error
 use Rattle.flow_base.specs.declared.event.ReadHow.TheVariants.{Use}
 use Rattle.heap_objects.specs.State.{item}

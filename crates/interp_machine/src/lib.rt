@@ -18,5 +18,7 @@ pub use errors::{fault, fault_named, raise_with};
 pub use kinds::{Kind, Pair};
 pub use machine::{MAX_DEPTH, Machine};
 pub use stop::Stop;
-pub use symbols::{ARGS, INIT, LAMBDA, class_of_symbol, class_symbol, fresh_names, is_among, text_of};
+pub use symbols::{
+    ARGS, INIT, LAMBDA, class_of_symbol, class_symbol, fresh_names, is_among, text_of,
+};
 pub use walks::{Walker, after, collect, item, next, part_at, point_value, range_size, walk};

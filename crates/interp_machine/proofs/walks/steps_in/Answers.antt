@@ -1,4 +1,4 @@
-use Rattle.std.proofs.Common.{◌≡◌, ◌∙◌, ◌-ℤ◌, ℕ, ap, arith}
+use Rattle.std.proofs.Common.{◌∙◌, ◌-ℤ◌, ap, arith}
 use Rattle.std.specs.Prelude.{◌<ℤ◌, nat_abs}
 use Rattle.std.proofs.lemmas.Int.{ints, to_z-of_z}
 use mir.Syntax.{w128}
