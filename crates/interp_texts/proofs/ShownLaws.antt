@@ -1,5 +1,5 @@
 -- What is shown in so many levels, turns or entries, one step further.
-use Rattle.std.proofs.Common.{◌≡◌, ◌≢◌, ◌-◌, ◌++◌, ◌≤◌, ◌∷◌, [], length, ℕ, suc, zero, Bool, true, List, Option, Some, Result, Ok, Err, refl, ap, arith}
+use Rattle.std.proofs.Common.{◌≡◌, ◌≢◌, ◌-◌, ◌++◌, ◌≤◌, ◌∷◌, [], length, ℕ, suc, zero, Bool, true, List, Option, Some, Result, Ok, refl, ap, arith}
 use Rattle.flow_base.specs.declared.numbers.ObjRef.{ObjRef}
 use Rattle.heap_objects.specs.declared.value.Value.{Value}
 use Rattle.interp_machine.specs.Meaning.{go_on, key_at, key_in}
