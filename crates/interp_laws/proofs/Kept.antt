@@ -11,30 +11,30 @@ use Rattle.flow_base.specs.declared.numbers.Sym.{Sym}
 use Rattle.heap_objects.specs.declared.value.Value.{Value}
 use Rattle.heap_objects.specs.declared.value.Value.TheOpen as v
 use Rattle.heap_objects.specs.declared.value.Value.TheOpen.{Value-F}
-use Rattle.interp_ops.specs.Equality as eq
 use Rattle.interp_machine.specs.Kinds.{kind, pair}
-use Rattle.interp_ops.specs.Lookups as look
-use Rattle.interp_ops.specs.Making.{make_dict, make_list, make_text, make_tuple, tuple}
-use Rattle.interp_machine.specs.Meaning.{M, go_on, ◌>>=◌, pure, stop_with, steps, fixed, load, present, shape, key_at, store, list_put, list_splice, dict_put, dict_remove, new_list, new_dict, new_instance, raise, object_value, give_args, new_error, error_of, error_with, fault, fault_named}
-use Rattle.interp_ops.specs.Operators as ops
-use Rattle.interp_ops.specs.Orders as ord
-use Rattle.interp_texts.specs.Shown as shown
-use Rattle.interp_texts.specs.Shown.{Shower, Arguments, Teller}
-use Rattle.interp_ops.specs.Truths.{has_entries, truth, truth_of}
+use Rattle.interp_machine.specs.Meaning.{M, go_on, ◌>>=◌, pure, stop_with, steps, fixed, load, present, shape, key_at, key_if, store, list_put, list_splice, dict_put, dict_remove, new_list, new_dict, new_instance, raise, object_value, give_args, new_error, error_of, error_with, fault, fault_named}
 use Rattle.interp_machine.specs.Walks.{collect, counted, gather, go_through, int_value, member, member_after, next, next_of, some_member, walk, walk_of}
 use Rattle.interp_machine.specs.declared.kinds.Kind.{Kind}
 use Rattle.interp_machine.specs.declared.kinds.Kind.TheVariants as k
 use Rattle.interp_machine.specs.declared.kinds.Pair.{Pair}
 use Rattle.interp_machine.specs.declared.kinds.Pair.TheVariants as two
-use Rattle.interp_ops.specs.declared.operators.Product.{Product}
-use Rattle.interp_ops.specs.declared.operators.Product.TheVariants as p
 use Rattle.interp_machine.specs.declared.machine.Machine.{Machine}
-use Rattle.interp_ops.specs.declared.operators.BinaryOp.{BinaryOp}
-use Rattle.interp_ops.specs.declared.operators.BinaryOp.TheVariants as binop
 use Rattle.interp_machine.specs.declared.stop.Stop.{Stop}
 use Rattle.interp_machine.specs.declared.stop.Stop.TheVariants as stop
 use Rattle.interp_machine.specs.declared.walks.Walker.{Walker}
 use Rattle.interp_machine.specs.declared.walks.Walker.TheVariants as w
+use Rattle.interp_ops.specs.Equality as eq
+use Rattle.interp_ops.specs.Lookups as look
+use Rattle.interp_ops.specs.Making.{make_dict, make_list, make_text, make_tuple, tuple}
+use Rattle.interp_ops.specs.Operators as ops
+use Rattle.interp_ops.specs.Orders as ord
+use Rattle.interp_ops.specs.Truths.{has_entries, truth, truth_of}
+use Rattle.interp_ops.specs.declared.products.Product.{Product}
+use Rattle.interp_ops.specs.declared.products.Product.TheVariants as p
+use Rattle.interp_ops.specs.declared.operators.BinaryOp.{BinaryOp}
+use Rattle.interp_ops.specs.declared.operators.BinaryOp.TheVariants as binop
+use Rattle.interp_texts.specs.Shown as shown
+use Rattle.interp_texts.specs.Shown.{Shower, Arguments, Teller}
 use Rattle.py_scalars.specs.declared.numbers.NumFault.{NumFault}
 use Rattle.py_scalars.specs.declared.numbers.NumFault.TheVariants.{ZeroDiv, Range}
 
@@ -321,7 +321,7 @@ module _ (I : Machine → Type 0) (G : Machine → Value → Type 0) where
       equal_entry_kept d e (Some key) = kept-bind _ _ (present_kept e key) (equal_at_kept d e key)
 
       equal_place_kept : (d e : ObjRef) (i : ℕ) → Kept (eq.equal_place below d e i)
-      equal_place_kept d e i = kept-bind _ _ (steps_kept 1) (λ u. kept-bind _ _ (key_at_kept d i) (λ x. equal_entry_kept d e (eq.key_if x)))
+      equal_place_kept d e i = kept-bind _ _ (steps_kept 1) (λ u. kept-bind _ _ (key_at_kept d i) (λ x. equal_entry_kept d e (key_if x)))
 
       equal_counts_kept : (d e : ObjRef) (m n : ℕ) → Kept (eq.equal_counts below d e m n)
       equal_counts_kept d e m n = cond_kept _ _ _ (all_from_kept _ (equal_place_kept d e) 0 m) (kept-pure _)

@@ -6,17 +6,17 @@ use Rattle.flow_base.specs.declared.key.Key.{Key}
 use Rattle.flow_base.specs.declared.loc.Loc.TheVariants as loc
 use Rattle.flow_base.specs.declared.numbers.ObjRef.{ObjRef}
 use Rattle.heap_objects.specs.declared.value.Value.{Value}
+use Rattle.interp_laws.proofs.Kept.{Kept, Reads, Writes, kept-pure, kept-steps, by_machine, kept-bind, key_at_kept, kind_kept, form_kept, exception_kept, raise_kept, fault_kept, next_kept}
 use Rattle.interp_machine.specs.Meaning.{M, load, raise, error_with}
-use Rattle.interp_texts.specs.Shown as shown
-use Rattle.interp_texts.specs.Shown.{Shower, Arguments, Teller}
-use Rattle.interp_ops.specs.Subscripts as sub
-use Rattle.interp_texts.specs.declared.forms.Form.{Form}
-use Rattle.interp_texts.specs.declared.forms.Form.TheVariants as form
 use Rattle.interp_machine.specs.declared.kinds.Kind.{Kind}
 use Rattle.interp_machine.specs.declared.kinds.Kind.TheVariants as k
 use Rattle.interp_machine.specs.declared.machine.Machine.{Machine}
 use Rattle.interp_machine.specs.declared.walks.Walker.{Walker}
-use Rattle.interp_laws.proofs.Kept.{Kept, Reads, Writes, kept-pure, kept-steps, by_machine, kept-bind, key_at_kept, kind_kept, form_kept, exception_kept, raise_kept, fault_kept, next_kept}
+use Rattle.interp_ops.specs.Subscripts as sub
+use Rattle.interp_texts.specs.Shown as shown
+use Rattle.interp_texts.specs.Shown.{Shower, Arguments, Teller}
+use Rattle.interp_texts.specs.declared.forms.Form.{Form}
+use Rattle.interp_texts.specs.declared.forms.Form.TheVariants as form
 
 module _ (I : Machine → Type 0) (G : Machine → Value → Type 0) (prims : Reads I G) (more : Writes I G) where
   open prims use {steps_kept, load_kept, present_kept, shape_kept}

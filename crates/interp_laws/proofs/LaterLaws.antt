@@ -17,12 +17,12 @@ use Rattle.heap_objects.specs.State.{State, cell_at, item, next_object, read_eve
 use Rattle.heap_objects.specs.declared.value.Value.{Value}
 use Rattle.heap_objects.proofs.KeptLaws.{kept_event, kept_itself, kept_item, kept_put_at, kept_remove, kept_splice, kept_store}
 use Rattle.heap_objects.proofs.MadeLaws.{kept_dict, kept_instance, kept_list}
+use Rattle.interp_laws.proofs.Kept.{Kept, Makes, Raises, Reads, Writes, error_of_kept, error_with_kept}
 use Rattle.interp_machine.specs.Later.{IsLater}
 use Rattle.interp_machine.specs.Meaning.{dict_put, dict_remove, list_put, list_splice, load, new_dict, new_instance, new_list, present, shape, steps, store, with_heap, M, Outcome}
 use Rattle.interp_machine.specs.declared.machine.Machine.{Machine}
 use Rattle.interp_machine.specs.declared.stop.Stop.{Stop}
 use Rattle.interp_machine.specs.declared.stop.Stop.TheVariants as stop
-use Rattle.interp_laws.proofs.Kept.{Kept, Makes, Raises, Reads, Writes, error_of_kept, error_with_kept}
 
 -- ---- states
 

@@ -13,10 +13,10 @@ use Rattle.heap_objects.specs.declared.value.Value.TheOpen as v
 use Rattle.heap_objects.specs.declared.value.Value.TheOpen.{Value-F}
 use Rattle.interp_machine.specs.Kinds.{pair}
 use Rattle.interp_machine.specs.Meaning.{M, ◌>>=◌, ◌>>◌, pure, fault, key_at, key_if, levels_left, load, present, shape, steps}
-use Rattle.interp_ops.specs.Truths.{identical}
 use Rattle.interp_machine.specs.Walks.{range_size}
 use Rattle.interp_machine.specs.declared.kinds.Pair.{Pair}
 use Rattle.interp_machine.specs.declared.kinds.Pair.TheVariants.{Numbers, Texts, Tuples, Lists, Dicts, Others}
+use Rattle.interp_ops.specs.Truths.{identical}
 
 -- ---- what is equal without an event
 

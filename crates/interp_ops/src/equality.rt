@@ -1,7 +1,7 @@
 // Equality of values.
 ghost use Rattle.std.specs.Prelude.{◌≡◌, IfOk, true};
-ghost use Rattle.interp_ops.specs.Equality as spec;
 ghost use Rattle.interp_machine.specs.Meaning.{Runs, key_if, key_in};
+ghost use Rattle.interp_ops.specs.Equality as spec;
 
 use crate::truths::{identical, same_text};
 use exceptions_core::FaultKind;

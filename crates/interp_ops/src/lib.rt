@@ -10,6 +10,7 @@ mod making;
 mod membership;
 mod operators;
 mod orders;
+mod products;
 mod subscripts;
 mod truths;
 

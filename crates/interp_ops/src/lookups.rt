@@ -99,7 +99,7 @@ fn class_ref(v: &Value) -> Option<ObjRef>
 }
 
 fn copy_if(v: Option<&Value>) -> Result<Option<Value>, NoMemory>
-    ensures { IfOk result (λ copy. copy ≡ option_copied v) }
+    ensures { IfOk result (λ copy. copy ≡ option_copied v.entry) }
 {
     match v {
         Some(x) => Ok(Some(x.copy()?)),

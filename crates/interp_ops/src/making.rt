@@ -1,7 +1,7 @@
 // New lists, tuples, texts and dictionaries.
 ghost use Rattle.std.specs.Prelude.{◌≡◌, IfOk};
-ghost use Rattle.interp_ops.specs.Making as spec;
 ghost use Rattle.interp_machine.specs.Meaning.{Runs};
+ghost use Rattle.interp_ops.specs.Making as spec;
 
 use exceptions_core::FaultKind;
 use flow_base::{NoMemory, PyText};

@@ -1,8 +1,8 @@
 // Membership in a text, a dictionary, or what is walked.
 ghost use Rattle.std.specs.Prelude.{◌≡◌, suc};
 ghost use Rattle.heap_objects.specs.Keyed as keyed;
-ghost use Rattle.interp_ops.specs.Equality.{equal};
 ghost use Rattle.interp_machine.specs.Meaning.{Runs};
+ghost use Rattle.interp_ops.specs.Equality.{equal};
 ghost use Rattle.interp_ops.specs.Operators as spec;
 
 use crate::equality::equal;

@@ -1,14 +1,15 @@
 // Operators of two operands and of one.
 ghost use Rattle.std.specs.Prelude.{◌≡◌, ◌-ℤ◌, length};
-ghost use Rattle.interp_ops.specs.Making as making;
 ghost use Rattle.interp_machine.specs.Meaning.{Runs, steps};
-ghost use Rattle.interp_ops.specs.Operators as spec;
 ghost use Rattle.interp_machine.specs.Walks as walks;
+ghost use Rattle.interp_ops.specs.Making as making;
+ghost use Rattle.interp_ops.specs.Operators as spec;
 ghost use Rattle.interp_ops.specs.declared.operators.BinaryOp.TheVariants.{Add, Sub, Mul, FloorDiv, Mod, Power};
 ghost use Rattle.py_scalars.specs.Exact.{divided, exact, floor_quotient, floor_remainder};
 
 use crate::joining::{joined_texts, joined_values, repeated_text, repeated_values};
 use crate::making::{make_list, make_text, make_tuple, tuple};
+use crate::products::{Product, times};
 use exceptions_core::FaultKind;
 use flow_base::{ObjRef, PyText};
 use heap_objects::{Value, Values};
@@ -24,16 +25,6 @@ pub enum BinaryOp {
     FloorDiv,
     Mod,
     Power,
-}
-
-/// What two values are that are multiplied: two numbers, a text, a tuple or a list with a number, or what is left.
-#[derive(Drop)]
-pub enum Product {
-    Numbers(i128, i128),
-    Text(PyText, i128),
-    Tuple(Values, i128),
-    List(ObjRef, i128),
-    Others,
 }
 
 /// The value of an operator of two operands.
@@ -123,34 +114,6 @@ fn raised_to(m: &mut Machine, x: i128, y: i128) -> Result<Value, Stop>
         return fault(m, FaultKind::Value);
     }
     answered(m, power(x, y))
-}
-
-// What two values are that are multiplied.
-fn times(first: Kind, second: Kind) -> Product
-    ensures { result ≡ spec.product_with first second }
-{
-    match first {
-        Kind::Number(n) => match second {
-            Kind::Number(x) => Product::Numbers(n, x),
-            Kind::Text(t) => Product::Text(t, n),
-            Kind::Tuple(parts) => Product::Tuple(parts, n),
-            Kind::List(o) => Product::List(o, n),
-            _ => Product::Others,
-        },
-        Kind::Text(t) => match second {
-            Kind::Number(n) => Product::Text(t, n),
-            _ => Product::Others,
-        },
-        Kind::Tuple(parts) => match second {
-            Kind::Number(n) => Product::Tuple(parts, n),
-            _ => Product::Others,
-        },
-        Kind::List(o) => match second {
-            Kind::Number(n) => Product::List(o, n),
-            _ => Product::Others,
-        },
-        _ => Product::Others,
-    }
 }
 
 fn product(m: &mut Machine, two: Product) -> Result<Value, Stop>

@@ -1,7 +1,7 @@
 // The order of values.
 ghost use Rattle.std.specs.Prelude.{◌≡◌, ◌↔◌, IsTrue, Some};
-ghost use Rattle.interp_ops.specs.Equality.{both, equal_below};
 ghost use Rattle.interp_machine.specs.Meaning.{Runs};
+ghost use Rattle.interp_ops.specs.Equality.{both, equal_below};
 ghost use Rattle.interp_ops.specs.Orders as spec;
 
 use crate::equality::{both_equal, lengths, sides};

@@ -8,7 +8,9 @@ use crate::joining::joined_values;
 use exceptions_core::{ExcClass, FaultKind};
 use flow_base::{Key, Loc, NoMemory, ObjRef, PyText, ReadHow, Shared};
 use heap_objects::{Value, Values, key_of};
-use interp_machine::{Kind, Machine, Stop, after, fault, item, point_value, raise_with, range_size};
+use interp_machine::{
+    Kind, Machine, Stop, after, fault, item, point_value, raise_with, range_size,
+};
 use std::alloc::Global;
 
 /// `a[i]`

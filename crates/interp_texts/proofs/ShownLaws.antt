@@ -3,11 +3,11 @@ use Rattle.std.proofs.Common.{◌≡◌, ◌≢◌, ◌-◌, ◌++◌, ◌≤◌
 use Rattle.flow_base.specs.declared.numbers.ObjRef.{ObjRef}
 use Rattle.heap_objects.specs.declared.value.Value.{Value}
 use Rattle.interp_machine.specs.Meaning.{go_on, key_at, key_in}
-use Rattle.interp_texts.specs.Shown.{Shower, Teller, comma, show_entries, show_entry, show_next, show_parts, str_arguments, str_to, str_with, tuple_to}
 use Rattle.interp_machine.specs.Walks.{next}
 use Rattle.interp_machine.specs.declared.machine.Machine.{Machine}
 use Rattle.interp_machine.specs.declared.stop.Stop.{Stop}
 use Rattle.interp_machine.specs.declared.walks.Walker.{Walker}
+use Rattle.interp_texts.specs.Shown.{Shower, Teller, comma, show_entries, show_entry, show_next, show_parts, str_arguments, str_to, str_with, tuple_to}
 
 -- a number above 0 is the next one of what is one less
 pub deeper : {X : Type 0} (f : ℕ → X) (n : ℕ) → n ≢ 0 → f n ≡ f (suc (n - 1))

@@ -22,13 +22,13 @@ use Rattle.interp_machine.specs.Kinds.{kind}
 use Rattle.interp_machine.specs.Meaning.{M, ◌>>=◌, ◌>>◌, pure, stop_with, fault, key_at, key_if, levels_left, load, shape, steps}
 use Rattle.interp_machine.specs.Symbols.{args_symbol, class_of_symbol, is_among, value_classes, text_of}
 use Rattle.interp_machine.specs.Walks.{next}
-use Rattle.interp_texts.specs.declared.forms.Form.{Form}
-use Rattle.interp_texts.specs.declared.forms.Form.TheVariants.{Plain, List as AList, Dict, Tuple, Error}
 use Rattle.interp_machine.specs.declared.kinds.Kind.{Kind}
 use Rattle.interp_machine.specs.declared.kinds.Kind.TheVariants as k
 use Rattle.interp_machine.specs.declared.stop.Stop.TheVariants as stop
 use Rattle.interp_machine.specs.declared.walks.Walker.{Walker}
 use Rattle.interp_machine.specs.declared.walks.Walker.TheVariants.{Items, Parts}
+use Rattle.interp_texts.specs.declared.forms.Form.{Form}
+use Rattle.interp_texts.specs.declared.forms.Form.TheVariants.{Plain, List as AList, Dict, Tuple, Error}
 use Rattle.py_scalars.specs.TextForm.{repr_of}
 
 -- ---- texts of what is not visited

@@ -2,8 +2,8 @@
 ghost use Rattle.std.specs.Prelude.{◌≡◌, ◌++◌, IfOk};
 ghost use Rattle.heap_objects.specs.State.{object_at};
 ghost use Rattle.heap_objects.specs.declared.value.Value.{out-Value};
-ghost use Rattle.interp_texts.specs.Shown as spec;
 ghost use Rattle.interp_machine.specs.Symbols as symbols;
+ghost use Rattle.interp_texts.specs.Shown as spec;
 ghost use Rattle.interp_texts.specs.declared.forms.Form.TheVariants.{Plain};
 
 use exceptions_core::ExcClass;

@@ -1,8 +1,8 @@
-use Rattle.interp_machine.specs.Later.{IsLater}
 use Rattle.interp_laws.proofs.Kept.{binary_kept, collect_kept, contains_kept, equal_kept, less_kept, less_or_equal_kept, lookup_kept, make_dict_kept, make_list_kept, make_text_kept, make_tuple_kept, negate_kept, next_kept, plus_kept, truth_kept, walk_kept}
 use Rattle.interp_laws.proofs.KeptTexts.{delete_item_kept, show_kept, store_item_kept, subscript_kept, to_str_kept}
 use Rattle.interp_laws.proofs.LaterLaws.{Any, added, later_reads, later_writes}
 use Rattle.interp_laws.proofs.meaning_laws.added_law.Goals as goal
+use Rattle.interp_machine.specs.Later.{IsLater}
 
 pub returns-clause-truth : goal.returns-clause-truth
 returns-clause-truth c = λ v. added _ (λ l. truth_kept (IsLater l) Any (later_reads l) v)

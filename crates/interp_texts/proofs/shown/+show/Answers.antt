@@ -1,7 +1,7 @@
 use Rattle.std.proofs.Common.{◌≡◌, ◌≢◌, ◌++◌, ◌∙◌, suc, Some, Ok, Err, rules, ap, arith}
 use Rattle.interp_machine.specs.Meaning.{key_in}
-use Rattle.interp_texts.specs.Shown.{arguments_to, comma, show_entry, show_next, show_to, show_walk}
 use Rattle.interp_machine.specs.Walks.{next}
+use Rattle.interp_texts.specs.Shown.{arguments_to, comma, show_entry, show_next, show_to, show_walk}
 use Rattle.interp_texts.proofs.ShownLaws.{deeper, entries_more, parts_more}
 use Rattle.interp_texts.proofs.shown.+show.Goals as goal
 
