@@ -1,5 +1,5 @@
 -- Truth and identity of values.
-use Rattle.std.specs.Prelude.{◌==◌, ◌&&◌, ℕ, ℤ, pos, zero, Bool, true, false, not, List, [], ◌∷◌, length}
+use Rattle.std.specs.Prelude.{◌==◌, ◌&&◌, ℕ, pos, Bool, true, false, not, List, [], ◌∷◌, length}
 use Rattle.std.specs.Ordering.{int_eq}
 use Rattle.std.specs.Str.{bytes_eq}
 use Rattle.flow_base.specs.declared.event.ReadHow.TheVariants.{Use}
