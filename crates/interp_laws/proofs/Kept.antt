@@ -1,5 +1,5 @@
 -- What each primitive operation keeps of a machine, each operation keeps.
-use Rattle.std.proofs.Common.{◌≡◌, ℕ, zero, suc, ℤ, pos, negsuc, Bool, true, false, cond, List, [], length, Option, Some, None, Result, Ok, Err, refl}
+use Rattle.std.proofs.Common.{◌≡◌, ℕ, zero, suc, ℤ, pos, negsuc, Bool, true, false, cond, List, [], Option, Some, None, Result, Ok, Err, refl}
 use Rattle.exceptions_core.specs.declared.class.ExcClass.{ExcClass}
 use Rattle.exceptions_core.specs.declared.error.FaultKind.{FaultKind}
 use Rattle.exceptions_core.specs.declared.error.FaultKind.TheVariants as error

@@ -3,11 +3,10 @@ use Rattle.std.proofs.Common.{ℕ, zero, suc, ℤ, pos, negsuc, Bool, true, fals
 use Rattle.exceptions_core.specs.declared.class.ExcClass.{ExcClass}
 use Rattle.exceptions_core.specs.declared.class.ExcClass.TheVariants.{KeyError}
 use Rattle.flow_base.specs.declared.key.Key.{Key}
-use Rattle.flow_base.specs.declared.loc.Loc.TheVariants as loc
 use Rattle.flow_base.specs.declared.numbers.ObjRef.{ObjRef}
 use Rattle.heap_objects.specs.declared.value.Value.{Value}
 use Rattle.interp_laws.proofs.Kept.{Kept, Reads, Writes, kept-pure, kept-steps, by_machine, kept-bind, key_at_kept, kind_kept, form_kept, exception_kept, raise_kept, fault_kept, next_kept}
-use Rattle.interp_machine.specs.Meaning.{M, load, raise, error_with}
+use Rattle.interp_machine.specs.Meaning.{M, raise, error_with}
 use Rattle.interp_machine.specs.declared.kinds.Kind.{Kind}
 use Rattle.interp_machine.specs.declared.kinds.Kind.TheVariants as k
 use Rattle.interp_machine.specs.declared.machine.Machine.{Machine}
