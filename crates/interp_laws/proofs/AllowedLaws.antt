@@ -31,8 +31,8 @@ use Rattle.heap_objects.specs.declared.value.Value.TheViews.{out-roll-Value, rol
 use Rattle.heap_objects.proofs.RefersLaws.{every_more, keeps_more, refers_more}
 use Rattle.heap_objects.proofs.SlotLaws.{none_some, same_some}
 use Rattle.interp_laws.specs.Formed.{AreSteadyCodes, Codes, has_method, rules_of}
-use Rattle.interp_ops.specs.Kinds.{kind_at, object_kind}
-use Rattle.interp_ops.specs.Meaning.{nests_over}
+use Rattle.interp_machine.specs.Kinds.{kind_at, object_kind}
+use Rattle.interp_machine.specs.Meaning.{nests_over}
 
 -- ---- the rules are steady
 

@@ -31,23 +31,23 @@ use Rattle.heap_objects.proofs.KeptLaws.{kept_event, kept_itself, kept_item, kep
 use Rattle.heap_objects.proofs.MadeLaws.{dict_made, instance_made, kept_dict, kept_instance, kept_list, list_made}
 use Rattle.heap_objects.proofs.SlotLaws.{none_some, same_some}
 use Rattle.interp_laws.specs.Formed.{Allowed, AllowedAll, AllowedObject, AllowedStep, AllowedWalk, Any, AreSteadyCodes, Codes, Ends, Gives, IsFormed, rules_of}
-use Rattle.interp_ops.specs.Kinds.{kind, kind_at, kind_of, object_kind, pair, pair_of}
-use Rattle.interp_ops.specs.Making.{all_keyed, make_dict, make_list, make_text, make_tuple, tuple}
-use Rattle.interp_ops.specs.Meaning.{Outcome, M, go_on, ◌>>=◌, ◌>>◌, pure, stop_with, steps, fixed, load, present, shape, key_at, store, list_put, list_splice, dict_put, dict_remove, new_list, new_dict, new_instance, raise, give_args, new_error, error_of, error_with, fault, fault_named, nests_over, object_value, text_value, builtin_value, with_heap}
-use Rattle.interp_ops.specs.Symbols.{class_symbol}
-use Rattle.interp_ops.specs.Walks.{collect, counted, gather, go_through, int_value, member, member_after, next, next_of, point_value, some_member, walk, walk_of}
-use Rattle.interp_ops.specs.declared.kinds.Kind.{Kind}
-use Rattle.interp_ops.specs.declared.kinds.Kind.TheVariants as k
-use Rattle.interp_ops.specs.declared.kinds.Pair.{Pair}
-use Rattle.interp_ops.specs.declared.kinds.Pair.TheVariants as two
-use Rattle.interp_ops.specs.declared.machine.Machine.{Machine}
-use Rattle.interp_ops.specs.declared.stop.Stop.{Stop}
-use Rattle.interp_ops.specs.declared.stop.Stop.TheVariants as stop
-use Rattle.interp_ops.specs.declared.walks.Walker.{Walker}
-use Rattle.interp_ops.specs.declared.walks.Walker.TheVariants as w
 use Rattle.interp_laws.proofs.AllowedLaws.{all_more, allowed_builtin, allowed_int, allowed_more, allowed_object, allowed_text, allowed_tuple, get_held, key_allowed, parts_allowed, steady_rules, value_allowed}
-use Rattle.interp_ops.proofs.Kept.{Kept, Raises, Reads}
-use Rattle.interp_ops.proofs.LaterLaws.{keeps_then}
+use Rattle.interp_laws.proofs.Kept.{Kept, Raises, Reads}
+use Rattle.interp_laws.proofs.LaterLaws.{keeps_then}
+use Rattle.interp_machine.specs.Kinds.{kind, kind_at, kind_of, object_kind, pair, pair_of}
+use Rattle.interp_machine.specs.Meaning.{Outcome, M, go_on, ◌>>=◌, ◌>>◌, pure, stop_with, steps, fixed, load, present, shape, key_at, store, list_put, list_splice, dict_put, dict_remove, new_list, new_dict, new_instance, raise, give_args, new_error, error_of, error_with, fault, fault_named, nests_over, object_value, text_value, builtin_value, with_heap}
+use Rattle.interp_machine.specs.Symbols.{class_symbol}
+use Rattle.interp_machine.specs.Walks.{collect, counted, gather, go_through, int_value, member, member_after, next, next_of, point_value, some_member, walk, walk_of}
+use Rattle.interp_machine.specs.declared.kinds.Kind.{Kind}
+use Rattle.interp_machine.specs.declared.kinds.Kind.TheVariants as k
+use Rattle.interp_machine.specs.declared.kinds.Pair.{Pair}
+use Rattle.interp_machine.specs.declared.kinds.Pair.TheVariants as two
+use Rattle.interp_machine.specs.declared.machine.Machine.{Machine}
+use Rattle.interp_machine.specs.declared.stop.Stop.{Stop}
+use Rattle.interp_machine.specs.declared.stop.Stop.TheVariants as stop
+use Rattle.interp_machine.specs.declared.walks.Walker.{Walker}
+use Rattle.interp_machine.specs.declared.walks.Walker.TheVariants as w
+use Rattle.interp_ops.specs.Making.{all_keyed, make_dict, make_list, make_text, make_tuple, tuple}
 
 -- the object that is made
 new_at : (s t : State) (new : Object) → object_at t (next_object s) ≡ cond (length s.nodes == length s.nodes) (Some new) (object_at s (next_object s))

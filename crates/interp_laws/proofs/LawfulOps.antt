@@ -20,22 +20,22 @@ use Rattle.heap_objects.specs.declared.value.Value.TheOpen.{Value-F}
 use Rattle.heap_objects.proofs.KeptLaws.{kept_itself}
 use Rattle.heap_objects.proofs.RefersLaws.{keeps_more}
 use Rattle.interp_laws.specs.Formed.{has_method, Allowed, AllowedAll, Any, AreSteadyCodes, Codes, rules_of}
-use Rattle.interp_ops.specs.Kinds.{kind_of}
+use Rattle.interp_laws.proofs.AllowedLaws.{allowed_bound, allowed_method, get_held}
+use Rattle.interp_laws.proofs.LaterLaws.{keeps_then}
+use Rattle.interp_machine.specs.Kinds.{kind_of}
+use Rattle.interp_machine.specs.Meaning.{M, pure, raise, error_with, fault}
+use Rattle.interp_machine.specs.declared.kinds.Kind.{Kind}
+use Rattle.interp_machine.specs.declared.kinds.Kind.TheVariants as k
+use Rattle.interp_machine.specs.declared.kinds.Pair.{Pair}
+use Rattle.interp_machine.specs.declared.kinds.Pair.TheVariants as two
+use Rattle.interp_machine.specs.declared.walks.Walker.TheVariants as w
 use Rattle.interp_ops.specs.Lookups as look
-use Rattle.interp_ops.specs.Meaning.{M, pure, raise, error_with, fault}
 use Rattle.interp_ops.specs.Operators as ops
 use Rattle.interp_ops.specs.Subscripts as sub
-use Rattle.interp_ops.specs.declared.kinds.Kind.{Kind}
-use Rattle.interp_ops.specs.declared.kinds.Kind.TheVariants as k
-use Rattle.interp_ops.specs.declared.kinds.Pair.{Pair}
-use Rattle.interp_ops.specs.declared.kinds.Pair.TheVariants as two
-use Rattle.interp_ops.specs.declared.kinds.Product.{Product}
-use Rattle.interp_ops.specs.declared.kinds.Product.TheVariants as p
+use Rattle.interp_ops.specs.declared.products.Product.{Product}
+use Rattle.interp_ops.specs.declared.products.Product.TheVariants as p
 use Rattle.interp_ops.specs.declared.operators.BinaryOp.{BinaryOp}
 use Rattle.interp_ops.specs.declared.operators.BinaryOp.TheVariants as binop
-use Rattle.interp_ops.specs.declared.walks.Walker.TheVariants as w
-use Rattle.interp_laws.proofs.AllowedLaws.{allowed_bound, allowed_method, get_held}
-use Rattle.interp_ops.proofs.LaterLaws.{keeps_then}
 use Rattle.py_scalars.specs.declared.numbers.NumFault.{NumFault}
 use Rattle.py_scalars.specs.declared.numbers.NumFault.TheVariants.{ZeroDiv, Range}
 use Rattle.interp_laws.proofs.Lawful.{KindSo, PairSo, Lawful, all_lawful, collect_lawful, dict_put_lawful, dict_remove_lawful, error_with_lawful, fault_lawful, fault_named_lawful, fixed_lawful, good_all, good_if, good_more, int_lawful, kind_good, kind_lawful, kind_so, lawful-bind, lawful-cond, lawful-machine, lawful-pure, lawful-range, list_put_lawful, list_splice_lawful, load_lawful, make_list_lawful, make_text_lawful, make_tuple_lawful, no_value, pair_good, point_good, present_lawful, raise_lawful, shape_lawful, steps_lawful}

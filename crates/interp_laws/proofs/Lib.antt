@@ -1,3 +1,6 @@
 pub mod AllowedLaws
+pub mod Kept
+pub mod KeptTexts
+pub mod LaterLaws
 pub mod Lawful
 pub mod LawfulOps

@@ -8,16 +8,16 @@ use Rattle.heap_objects.specs.Changes.{Keeps}
 use Rattle.heap_objects.specs.State.{State}
 use Rattle.heap_objects.specs.WellFormed.{IsAllowed, IsAllowedIf, IsWellFormed, Rules}
 use Rattle.heap_objects.specs.declared.value.Value.{Value}
-use Rattle.interp_ops.specs.Kinds.{kind_of}
-use Rattle.interp_ops.specs.Meaning.{Outcome, object_value}
-use Rattle.interp_ops.specs.Symbols.{dict_methods, is_among, known_texts, list_methods, text_methods, tuple_methods}
-use Rattle.interp_ops.specs.declared.kinds.Kind.{Kind}
-use Rattle.interp_ops.specs.declared.kinds.Kind.TheVariants as k
-use Rattle.interp_ops.specs.declared.machine.Machine.{Machine}
-use Rattle.interp_ops.specs.declared.stop.Stop.{Stop}
-use Rattle.interp_ops.specs.declared.stop.Stop.TheVariants as stop
-use Rattle.interp_ops.specs.declared.walks.Walker.{Walker}
-use Rattle.interp_ops.specs.declared.walks.Walker.TheVariants as w
+use Rattle.interp_machine.specs.Kinds.{kind_of}
+use Rattle.interp_machine.specs.Meaning.{Outcome, object_value}
+use Rattle.interp_machine.specs.Symbols.{dict_methods, is_among, known_texts, list_methods, text_methods, tuple_methods}
+use Rattle.interp_machine.specs.declared.kinds.Kind.{Kind}
+use Rattle.interp_machine.specs.declared.kinds.Kind.TheVariants as k
+use Rattle.interp_machine.specs.declared.machine.Machine.{Machine}
+use Rattle.interp_machine.specs.declared.stop.Stop.{Stop}
+use Rattle.interp_machine.specs.declared.stop.Stop.TheVariants as stop
+use Rattle.interp_machine.specs.declared.walks.Walker.{Walker}
+use Rattle.interp_machine.specs.declared.walks.Walker.TheVariants as w
 
 -- ---- the rules of the language
 

@@ -4,20 +4,20 @@ ghost use Rattle.exceptions_core.specs.declared.class.ExcClass.{ExcClass};
 ghost use Rattle.exceptions_core.specs.declared.error.FaultKind.{FaultKind};
 ghost use Rattle.flow_base.specs.declared.numbers.Sym.{Sym};
 ghost use Rattle.heap_objects.specs.declared.value.Value.{Value};
-ghost use Rattle.interp_ops.specs.Equality as equality;
 ghost use Rattle.interp_laws.specs.Formed.{Allowed, AllowedAll, AllowedObject, AllowedStep, AllowedWalk, Any, AreSteadyCodes, Codes, Ends, IsFormed};
+ghost use Rattle.interp_machine.specs.Meaning as meaning;
+ghost use Rattle.interp_machine.specs.Walks as walks;
+ghost use Rattle.interp_machine.specs.declared.machine.Machine.{Machine};
+ghost use Rattle.interp_machine.specs.declared.walks.Walker.{Walker};
+ghost use Rattle.interp_ops.specs.Equality as equality;
 ghost use Rattle.interp_ops.specs.Lookups as lookups;
 ghost use Rattle.interp_ops.specs.Making as making;
-ghost use Rattle.interp_ops.specs.Meaning as meaning;
 ghost use Rattle.interp_ops.specs.Operators as operators;
 ghost use Rattle.interp_ops.specs.Orders as orders;
-ghost use Rattle.interp_ops.specs.Shown as shown;
 ghost use Rattle.interp_ops.specs.Subscripts as subscripts;
 ghost use Rattle.interp_ops.specs.Truths as truths;
-ghost use Rattle.interp_ops.specs.Walks as walks;
-ghost use Rattle.interp_ops.specs.declared.machine.Machine.{Machine};
 ghost use Rattle.interp_ops.specs.declared.operators.BinaryOp.{BinaryOp};
-ghost use Rattle.interp_ops.specs.declared.walks.Walker.{Walker};
+ghost use Rattle.interp_texts.specs.Shown as shown;
 
 /// From a formed machine, whose objects are well formed and whose names begin with those that are known, each operation comes to a formed
 /// machine, with a value that it allows where it gives or raises one, where the values that it is given are allowed.

@@ -1,10 +1,10 @@
 -- Levels of equality, and tests from a place on, one by one.
 use Rattle.std.proofs.Common.{◌≡◌, ◌≢◌, ◌-◌, ◌<◌, ℕ, zero, suc, Bool, true, false, Ok, Err, refl, arith}
 use Rattle.heap_objects.specs.declared.value.Value.{Value}
+use Rattle.interp_machine.specs.Meaning.{M}
+use Rattle.interp_machine.specs.declared.machine.Machine.{Machine}
+use Rattle.interp_machine.specs.declared.stop.Stop.{Stop}
 use Rattle.interp_ops.specs.Equality.{all_from, equal_below, equal_with}
-use Rattle.interp_ops.specs.Meaning.{M}
-use Rattle.interp_ops.specs.declared.machine.Machine.{Machine}
-use Rattle.interp_ops.specs.declared.stop.Stop.{Stop}
 
 pub deeper : (n : ℕ) (a b : Value) (m : Machine) → 0 < n → equal_below n a b m ≡ equal_with (equal_below (n - 1)) a b m
 unfolding equal_below

@@ -1,12 +1,12 @@
 -- The search for an equal part, turn by turn.
 use Rattle.std.proofs.Common.{◌≡◌, ◌≢◌, ◌-◌, ℕ, zero, suc, true, false, Some, Ok, Err, refl, arith}
 use Rattle.heap_objects.specs.declared.value.Value.{Value}
+use Rattle.interp_machine.specs.Walks.{next}
+use Rattle.interp_machine.specs.declared.machine.Machine.{Machine}
+use Rattle.interp_machine.specs.declared.stop.Stop.{Stop}
+use Rattle.interp_machine.specs.declared.walks.Walker.{Walker}
 use Rattle.interp_ops.specs.Equality.{equal}
 use Rattle.interp_ops.specs.Operators.{found_from}
-use Rattle.interp_ops.specs.Walks.{next}
-use Rattle.interp_ops.specs.declared.machine.Machine.{Machine}
-use Rattle.interp_ops.specs.declared.stop.Stop.{Stop}
-use Rattle.interp_ops.specs.declared.walks.Walker.{Walker}
 
 pub found_more : (v x : Value) (n : ℕ) (w after : Walker) (m mid new : Machine) → n ≢ 0
     → next w m ≡ (Ok (Some x, after), mid) → equal x v mid ≡ (Ok false, new) → found_from v n w m ≡ found_from v (n - 1) after new

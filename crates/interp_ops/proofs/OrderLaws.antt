@@ -1,11 +1,11 @@
 -- Levels of the order, and tests from a place on, one by one.
 use Rattle.std.proofs.Common.{◌≡◌, ◌≢◌, ◌-◌, ◌<◌, ℕ, zero, suc, Bool, false, Option, Some, None, Ok, Err, refl, arith}
 use Rattle.heap_objects.specs.declared.value.Value.{Value}
+use Rattle.interp_machine.specs.Meaning.{M}
+use Rattle.interp_machine.specs.declared.machine.Machine.{Machine}
+use Rattle.interp_machine.specs.declared.stop.Stop.{Stop}
 use Rattle.interp_ops.specs.Equality.{equal_below}
-use Rattle.interp_ops.specs.Meaning.{M}
 use Rattle.interp_ops.specs.Orders.{first_from, less_below, less_with}
-use Rattle.interp_ops.specs.declared.machine.Machine.{Machine}
-use Rattle.interp_ops.specs.declared.stop.Stop.{Stop}
 
 pub less_deeper : (n : ℕ) (a b : Value) (m : Machine) → 0 < n → less_below n a b m ≡ less_with (equal_below (n - 1)) (less_below (n - 1)) false a b m
 unfolding less_below

@@ -1,9 +1,9 @@
 -- Lists that are repeated.
 use Rattle.std.proofs.Common.{◌≡◌, ◌≢◌, ◌+◌, ◌-◌, ◌*◌, ◌++◌, ℕ, zero, suc, List, [], ◌∷◌, length, ap, sym, refl, ◌∙◌, append_assoc, arith, length-append}
 use Rattle.std.specs.Prelude.{◌<◌, nat_le, false}
-use Rattle.interp_ops.specs.Meaning.{steps}
+use Rattle.interp_machine.specs.Meaning.{steps}
+use Rattle.interp_machine.specs.declared.machine.Machine.{Machine}
 use Rattle.interp_ops.specs.Operators.{repeated, turns}
-use Rattle.interp_ops.specs.declared.machine.Machine.{Machine}
 
 pub repeated_none : {A : Type 0} (n : ℕ) (xs : List A) → length xs ≡ 0 → repeated n xs ≡ []
 repeated_none zero xs none = refl

@@ -3,9 +3,9 @@ use Rattle.std.proofs.Common.{◌≡◌, ◌≢◌, ◌-◌, ℕ, zero, suc, Lis
 use Rattle.flow_base.specs.declared.numbers.ObjRef.{ObjRef}
 use Rattle.heap_objects.specs.State.{item}
 use Rattle.heap_objects.specs.declared.value.Value.{Value}
-use Rattle.interp_ops.specs.Meaning.{load, steps}
+use Rattle.interp_machine.specs.Meaning.{load, steps}
+use Rattle.interp_machine.specs.declared.machine.Machine.{Machine}
 use Rattle.interp_ops.specs.Subscripts.{used_from, with_part}
-use Rattle.interp_ops.specs.declared.machine.Machine.{Machine}
 
 pub used_more : (o : ObjRef) (i next n : ℕ) (done more : List Value) (x : Option Value) (m mid new : Machine) → n ≢ 0
     → load (item o i) m ≡ (Ok x, mid) → steps 1 mid ≡ (Ok tt, new) → more ≡ with_part done x → next ≡ suc i

@@ -1,5 +1,5 @@
 -- Equality of values.
-use Rattle.std.specs.Prelude.{◌==◌, ◌&&◌, ◌||◌, ◌-◌, ℕ, zero, suc, ℤ, Bool, true, false, length, Option, Some, None, if◌then◌else◌, slice_get}
+use Rattle.std.specs.Prelude.{◌==◌, ◌&&◌, ◌||◌, ℕ, zero, suc, ℤ, Bool, true, false, length, Option, Some, None, if◌then◌else◌, slice_get}
 use Rattle.std.specs.Ordering.{int_eq}
 use Rattle.std.specs.Str.{bytes_eq}
 use Rattle.exceptions_core.specs.declared.error.FaultKind.TheVariants as error
@@ -7,25 +7,16 @@ use Rattle.flow_base.specs.declared.event.ReadHow.TheVariants.{Use}
 use Rattle.flow_base.specs.declared.key.Key.{Key}
 use Rattle.flow_base.specs.declared.loc.Loc.TheVariants as loc
 use Rattle.flow_base.specs.declared.numbers.ObjRef.{ObjRef}
-use Rattle.heap_objects.specs.Keyed.{key_of}
 use Rattle.heap_objects.specs.State.{item}
 use Rattle.heap_objects.specs.declared.value.Value.{Value, out-Value}
 use Rattle.heap_objects.specs.declared.value.Value.TheOpen as v
 use Rattle.heap_objects.specs.declared.value.Value.TheOpen.{Value-F}
-use Rattle.interp_ops.specs.Kinds.{pair}
-use Rattle.interp_ops.specs.Meaning.{M, ◌>>=◌, ◌>>◌, pure, fault, key_at, load, present, shape, steps}
+use Rattle.interp_machine.specs.Kinds.{pair}
+use Rattle.interp_machine.specs.Meaning.{M, ◌>>=◌, ◌>>◌, pure, fault, key_at, key_if, levels_left, load, present, shape, steps}
+use Rattle.interp_machine.specs.Walks.{range_size}
+use Rattle.interp_machine.specs.declared.kinds.Pair.{Pair}
+use Rattle.interp_machine.specs.declared.kinds.Pair.TheVariants.{Numbers, Texts, Tuples, Lists, Dicts, Others}
 use Rattle.interp_ops.specs.Truths.{identical}
-use Rattle.interp_ops.specs.Walks.{range_size}
-use Rattle.interp_ops.specs.declared.kinds.Pair.{Pair}
-use Rattle.interp_ops.specs.declared.kinds.Pair.TheVariants.{Numbers, Texts, Tuples, Lists, Dicts, Others}
-use Rattle.interp_ops.specs.declared.machine.Machine.{Machine}
-use Rattle.interp_ops.specs.declared.machine.TheConstants.{MAX_DEPTH}
-
--- ---- levels
-
--- how many levels may be open below what is open now
-abbrev pub levels_left : Machine → ℕ
-levels_left m = MAX_DEPTH - m.depth
 
 -- ---- what is equal without an event
 
@@ -78,11 +69,6 @@ and_then more false = pure false
 unfoldable pub all_from : (ℕ → M Bool) → ℕ → ℕ → M Bool
 all_from test i zero = pure true
 all_from test i (suc n) = test i >>= and_then (all_from test (suc i) n)
-
--- the key of a value that is there
-abbrev pub key_if : Option Value → Option Key
-key_if None = None
-key_if (Some x) = key_of x
 
 module _ (below : Value → Value → M Bool) where
   -- what stands at a place of both is equal

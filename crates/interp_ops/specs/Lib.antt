@@ -1,13 +1,7 @@
 pub mod Equality
-pub mod Kinds
-pub mod Later
 pub mod Lookups
 pub mod Making
-pub mod Meaning
 pub mod Operators
 pub mod Orders
-pub mod Shown
 pub mod Subscripts
-pub mod Symbols
 pub mod Truths
-pub mod Walks

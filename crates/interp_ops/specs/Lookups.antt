@@ -1,23 +1,22 @@
 -- Attributes of values.
 use Rattle.std.specs.Prelude.{ℕ, zero, suc, Bool, true, false, nat_le, length, Option, Some, None, if◌then◌else◌}
-use Rattle.exceptions_core.specs.declared.class.ExcClass.{ExcClass}
 use Rattle.exceptions_core.specs.declared.error.FaultKind.TheVariants as error
 use Rattle.flow_base.specs.declared.loc.Loc.TheVariants as loc
 use Rattle.flow_base.specs.declared.numbers.ObjRef.{ObjRef}
 use Rattle.flow_base.specs.declared.numbers.Sym.{Sym}
 use Rattle.heap_objects.specs.Nesting.{kept_nesting}
-use Rattle.heap_objects.specs.State.{State, object_at}
 use Rattle.heap_objects.specs.declared.object.Object.{Object}
 use Rattle.heap_objects.specs.declared.object.Object.TheVariants as object
 use Rattle.heap_objects.specs.declared.value.TheConstants.{NESTING_LIMIT}
 use Rattle.heap_objects.specs.declared.value.Value.{Value, out-Value, roll-Value}
 use Rattle.heap_objects.specs.declared.value.Value.TheOpen as v
 use Rattle.heap_objects.specs.declared.value.Value.TheOpen.{Value-F}
-use Rattle.interp_ops.specs.Kinds.{kind}
-use Rattle.interp_ops.specs.Meaning.{M, ◌>>=◌, pure, fault, fault_named, fixed, load}
-use Rattle.interp_ops.specs.Symbols.{class_of_symbol, dict_methods, is_among, list_methods, text_methods, tuple_methods}
-use Rattle.interp_ops.specs.declared.kinds.Kind.{Kind}
-use Rattle.interp_ops.specs.declared.kinds.Kind.TheVariants as k
+use Rattle.interp_machine.specs.Classes.{base_in}
+use Rattle.interp_machine.specs.Kinds.{kind}
+use Rattle.interp_machine.specs.Meaning.{M, ◌>>=◌, pure, fault, fault_named, fixed, load}
+use Rattle.interp_machine.specs.Symbols.{dict_methods, is_among, list_methods, text_methods, tuple_methods}
+use Rattle.interp_machine.specs.declared.kinds.Kind.{Kind}
+use Rattle.interp_machine.specs.declared.kinds.Kind.TheVariants as k
 
 -- ---- classes and the classes above them
 
@@ -29,29 +28,6 @@ class_ref _ = None
 abbrev pub class_in : Option Value → Option ObjRef
 class_in None = None
 class_in (Some x) = class_ref (out-Value x)
-
-abbrev pub base_in : Option Object → Option Value
-base_in (Some (object.Class name base)) = base
-base_in _ = None
-
-abbrev pub exception_at : (Option Value → Option ExcClass) → State → Value-F Value → Option ExcClass
-exception_at above s (v.Builtin f) = class_of_symbol f
-exception_at above s (v.Obj o) = above (base_in (object_at s o))
-exception_at above s _ = None
-
-abbrev pub exception_in : (Option Value → Option ExcClass) → State → Option Value → Option ExcClass
-exception_in above s None = None
-exception_in above s (Some x) = exception_at above s (out-Value x)
-
--- the exception class that a class is, or the first one above it, among at most so many classes
-abbrev pub exception_above : State → ℕ → Option Value → Option ExcClass
-exception_above s zero x = None
-exception_above s (suc n) x = exception_in (exception_above s n) s x
-
--- the built-in exception class that a class is or is below, if it is below Exception; the bases of a class were made before it, so that
--- there are fewer of them than objects
-abbrev pub exception_of : State → Value → Option ExcClass
-exception_of s class = exception_at (exception_above s (length s.nodes)) s (out-Value class)
 
 -- ---- lookups
 

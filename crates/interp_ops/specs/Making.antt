@@ -1,11 +1,11 @@
 -- New lists, tuples, texts and dictionaries. Their steps come before any event.
-use Rattle.std.specs.Prelude.{ℕ, List, [], ◌∷◌, length, map, Bool, Option, Some, None, if◌then◌else◌, is_some}
+use Rattle.std.specs.Prelude.{ℕ, List, length, Bool, if◌then◌else◌, is_some}
 use Rattle.std.specs.List.{list_all}
 use Rattle.exceptions_core.specs.declared.error.FaultKind.TheVariants as error
 use Rattle.heap_objects.specs.Keyed.{key_of}
-use Rattle.heap_objects.specs.Nesting.{kept_nesting, tuple_of}
+use Rattle.heap_objects.specs.Nesting.{tuple_of}
 use Rattle.heap_objects.specs.declared.value.Value.{Value}
-use Rattle.interp_ops.specs.Meaning.{M, ◌>>=◌, ◌>>◌, pure, fault, nests_over, new_dict, new_list, object_value, steps, text_value}
+use Rattle.interp_machine.specs.Meaning.{M, ◌>>=◌, ◌>>◌, pure, fault, nests_over, new_dict, new_list, object_value, steps, text_value}
 
 -- a list of these items, with a step for each
 unfoldable pub make_list : List Value → M Value

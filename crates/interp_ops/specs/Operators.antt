@@ -6,22 +6,22 @@ use Rattle.flow_base.specs.declared.key.Key.{Key}
 use Rattle.flow_base.specs.declared.numbers.ObjRef.{ObjRef}
 use Rattle.heap_objects.specs.Keyed.{key_of}
 use Rattle.heap_objects.specs.declared.value.Value.{Value}
+use Rattle.interp_machine.specs.Kinds.{kind, kind_of, pair}
+use Rattle.interp_machine.specs.Meaning.{M, ◌>>=◌, ◌>>◌, pure, stop_with, fault, present, steps}
+use Rattle.interp_machine.specs.Walks.{collect, int_value, next, size_of, walk}
+use Rattle.interp_machine.specs.declared.kinds.Kind.{Kind}
+use Rattle.interp_machine.specs.declared.kinds.Kind.TheVariants as k
+use Rattle.interp_machine.specs.declared.kinds.Pair.{Pair}
+use Rattle.interp_machine.specs.declared.kinds.Pair.TheVariants.{Numbers, Texts, Tuples, Lists, Dicts, Others}
+use Rattle.interp_machine.specs.declared.stop.Stop.TheVariants as stop
+use Rattle.interp_machine.specs.declared.walks.Walker.{Walker}
+use Rattle.interp_machine.specs.declared.walks.Walker.TheVariants.{Items}
 use Rattle.interp_ops.specs.Equality.{equal}
-use Rattle.interp_ops.specs.Kinds.{kind, kind_of, pair}
 use Rattle.interp_ops.specs.Making.{make_list, make_text, make_tuple}
-use Rattle.interp_ops.specs.Meaning.{M, ◌>>=◌, ◌>>◌, pure, stop_with, fault, present, steps}
-use Rattle.interp_ops.specs.Walks.{collect, int_value, next, size_of, walk}
-use Rattle.interp_ops.specs.declared.kinds.Kind.{Kind}
-use Rattle.interp_ops.specs.declared.kinds.Kind.TheVariants as k
-use Rattle.interp_ops.specs.declared.kinds.Pair.{Pair}
-use Rattle.interp_ops.specs.declared.kinds.Pair.TheVariants.{Numbers, Texts, Tuples, Lists, Dicts, Others}
-use Rattle.interp_ops.specs.declared.kinds.Product.{Product}
-use Rattle.interp_ops.specs.declared.kinds.Product.TheVariants as p
+use Rattle.interp_ops.specs.declared.products.Product.{Product}
+use Rattle.interp_ops.specs.declared.products.Product.TheVariants as p
 use Rattle.interp_ops.specs.declared.operators.BinaryOp.{BinaryOp}
 use Rattle.interp_ops.specs.declared.operators.BinaryOp.TheVariants.{Add, Sub, Mul, FloorDiv, Mod, Power}
-use Rattle.interp_ops.specs.declared.stop.Stop.TheVariants as stop
-use Rattle.interp_ops.specs.declared.walks.Walker.{Walker}
-use Rattle.interp_ops.specs.declared.walks.Walker.TheVariants.{Items}
 use Rattle.py_scalars.specs.Exact.{divided, exact, floor_quotient, floor_remainder}
 use Rattle.py_scalars.specs.Search.{first_place}
 use Rattle.py_scalars.specs.declared.numbers.NumFault.{NumFault}

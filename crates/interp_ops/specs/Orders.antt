@@ -8,11 +8,11 @@ use Rattle.exceptions_core.specs.declared.error.FaultKind.TheVariants as error
 use Rattle.heap_objects.specs.Tree as tree
 use Rattle.heap_objects.specs.Tree.{Tree, Trees, none, more, tree_of, trees_of}
 use Rattle.heap_objects.specs.declared.value.Value.{Value}
-use Rattle.interp_ops.specs.Equality.{both, equal_below, lengths, levels_left, sides}
-use Rattle.interp_ops.specs.Kinds.{pair}
-use Rattle.interp_ops.specs.Meaning.{M, ◌>>=◌, pure, fault}
-use Rattle.interp_ops.specs.declared.kinds.Pair.{Pair}
-use Rattle.interp_ops.specs.declared.kinds.Pair.TheVariants.{Numbers, Texts, Tuples, Lists, Dicts, Others}
+use Rattle.interp_machine.specs.Kinds.{pair}
+use Rattle.interp_machine.specs.Meaning.{M, ◌>>=◌, pure, fault, levels_left}
+use Rattle.interp_machine.specs.declared.kinds.Pair.{Pair}
+use Rattle.interp_machine.specs.declared.kinds.Pair.TheVariants.{Numbers, Texts, Tuples, Lists, Dicts, Others}
+use Rattle.interp_ops.specs.Equality.{both, equal_below, lengths, sides}
 
 -- ---- the order
 

@@ -12,11 +12,11 @@ use Rattle.heap_objects.specs.State.{item}
 use Rattle.heap_objects.specs.declared.value.Value.{Value, out-Value}
 use Rattle.heap_objects.specs.declared.value.Value.TheOpen as v
 use Rattle.heap_objects.specs.declared.value.Value.TheOpen.{Value-F}
-use Rattle.interp_ops.specs.Kinds.{kind}
-use Rattle.interp_ops.specs.Meaning.{M, ◌>>=◌, ◌>>◌, pure, dict_put, dict_remove, error_with, fault, list_put, list_splice, load, present, raise, shape, steps}
-use Rattle.interp_ops.specs.Walks.{int_value, point_value, range_size}
-use Rattle.interp_ops.specs.declared.kinds.Kind.{Kind}
-use Rattle.interp_ops.specs.declared.kinds.Kind.TheVariants.{Text, Tuple, Range, List as AList, Dict}
+use Rattle.interp_machine.specs.Kinds.{kind}
+use Rattle.interp_machine.specs.Meaning.{M, ◌>>=◌, ◌>>◌, pure, dict_put, dict_remove, error_with, fault, list_put, list_splice, load, present, raise, shape, steps}
+use Rattle.interp_machine.specs.Walks.{int_value, point_value, range_size}
+use Rattle.interp_machine.specs.declared.kinds.Kind.{Kind}
+use Rattle.interp_machine.specs.declared.kinds.Kind.TheVariants.{Text, Tuple, Range, List as AList, Dict}
 
 -- ---- places
 

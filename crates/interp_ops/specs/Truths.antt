@@ -1,5 +1,5 @@
 -- Truth and identity of values.
-use Rattle.std.specs.Prelude.{◌==◌, ◌&&◌, ℕ, ℤ, pos, zero, Bool, true, false, not, List, [], ◌∷◌, length}
+use Rattle.std.specs.Prelude.{◌==◌, ◌&&◌, ℕ, pos, Bool, true, false, not, List, [], ◌∷◌, length}
 use Rattle.std.specs.Ordering.{int_eq}
 use Rattle.std.specs.Str.{bytes_eq}
 use Rattle.flow_base.specs.declared.event.ReadHow.TheVariants.{Use}
@@ -7,11 +7,11 @@ use Rattle.flow_base.specs.declared.numbers.ObjRef.{ObjRef}
 use Rattle.heap_objects.specs.declared.value.Value.{Value, fold-Value, out-Value}
 use Rattle.heap_objects.specs.declared.value.Value.TheOpen as v
 use Rattle.heap_objects.specs.declared.value.Value.TheOpen.{Value-F}
-use Rattle.interp_ops.specs.Kinds.{kind}
-use Rattle.interp_ops.specs.Meaning.{M, ◌>>=◌, pure, shape}
-use Rattle.interp_ops.specs.Walks.{range_size}
-use Rattle.interp_ops.specs.declared.kinds.Kind.{Kind}
-use Rattle.interp_ops.specs.declared.kinds.Kind.TheVariants.{Nil, Number, Text, Tuple, Range, List as AList, Dict}
+use Rattle.interp_machine.specs.Kinds.{kind}
+use Rattle.interp_machine.specs.Meaning.{M, ◌>>=◌, pure, shape}
+use Rattle.interp_machine.specs.Walks.{range_size}
+use Rattle.interp_machine.specs.declared.kinds.Kind.{Kind}
+use Rattle.interp_machine.specs.declared.kinds.Kind.TheVariants.{Nil, Number, Text, Tuple, Range, List as AList, Dict}
 
 -- a count of something
 abbrev pub is_some_count : ℕ → Bool

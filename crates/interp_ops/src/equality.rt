@@ -1,18 +1,13 @@
 // Equality of values.
-ghost use Rattle.std.specs.Prelude.{◌≡◌, IfOk, true, slice_get};
+ghost use Rattle.std.specs.Prelude.{◌≡◌, IfOk, true};
+ghost use Rattle.interp_machine.specs.Meaning.{Runs, key_if, key_in};
 ghost use Rattle.interp_ops.specs.Equality as spec;
-ghost use Rattle.interp_ops.specs.Kinds.{kind_of, pair_of};
-ghost use Rattle.interp_ops.specs.Meaning.{Runs, key_in};
 
-use crate::errors::fault;
-use crate::kinds::Pair;
-use crate::machine::{MAX_DEPTH, Machine};
-use crate::stop::Stop;
 use crate::truths::{identical, same_text};
-use crate::walks::{item, range_size};
 use exceptions_core::FaultKind;
 use flow_base::{Key, Loc, NoMemory, ObjRef, ReadHow};
-use heap_objects::{Value, Values, key_of};
+use heap_objects::{Value, key_of};
+use interp_machine::{Machine, Pair, Stop, fault, item, part_at, range_size};
 
 /// Whether two values are equal (Python reference 6.10.1, "Value comparisons"): numbers by value, texts, None and built-ins by themselves,
 /// ranges as sequences, tuples, lists and dictionaries by their parts, for a step each; references to one object always, and bound methods
@@ -22,15 +17,8 @@ use heap_objects::{Value, Values, key_of};
 pub fn equal(m: &mut Machine, a: &Value, b: &Value) -> Result<bool, Stop>
     ensures { Runs (spec.equal a.now b.now m.old) result m.new }
 {
-    let levels = levels_left(m);
+    let levels = m.levels_left();
     equal_with(m, levels, a, b)
-}
-
-/// How many levels may be open below what is open now.
-pub(crate) fn levels_left(m: &Machine) -> u32
-    ensures { result ≡ spec.levels_left m.now }
-{
-    MAX_DEPTH.saturating_sub(m.depth)
 }
 
 /// Whether two values are equal, with so many levels left, of which this takes one.
@@ -45,22 +33,13 @@ pub(crate) fn equal_below(m: &mut Machine, levels: u32, a: &Value, b: &Value) ->
     equal_with(m, levels - 1, a, b)
 }
 
-#[tactic(auto, unfolding(crate::specs::Equality::equal_with, crate::specs::Kinds::pair))]
+#[tactic(auto, unfolding(crate::specs::Equality::equal_with, interp_machine::specs::Kinds::pair))]
 #[cycle(equal)]
 fn equal_with(m: &mut Machine, levels: u32, a: &Value, b: &Value) -> Result<bool, Stop>
     ensures { Runs (spec.equal_with (spec.equal_below levels) a.now b.now m.old) result m.new }
 {
-    let both = pair(m, a, b)?;
+    let both = m.pair(a, b)?;
     equal_pair(m, levels, a, b, &both)
-}
-
-/// What two values are together.
-pub(crate) fn pair(m: &Machine, a: &Value, b: &Value) -> Result<Pair, NoMemory>
-    ensures { IfOk result (λ p. p ≡ pair_of (kind_of m.now.heap a.now) (kind_of m.now.heap b.now)) }
-{
-    let first = m.kind(a)?;
-    let second = m.kind(b)?;
-    Ok(first.pair(second))
 }
 
 #[cycle(equal)]
@@ -179,15 +158,6 @@ pub(crate) fn sides(
     }
 }
 
-fn part_at(parts: &Values, i: usize) -> Result<Option<Value>, NoMemory>
-    ensures { IfOk result (λ x. x ≡ slice_get parts.now i) }
-{
-    match parts.get(i) {
-        Some(v) => Ok(Some(v.copy()?)),
-        None => Ok(None),
-    }
-}
-
 /// Whether two values that are there are equal.
 #[cycle(equal)]
 pub(crate) fn both_equal(
@@ -278,7 +248,7 @@ fn equal_entries(
 }
 
 // Whether the key at a place of the first has an equal value in both, for a step.
-#[tactic(auto, unfolding(crate::specs::Meaning::key_at))]
+#[tactic(auto, unfolding(interp_machine::specs::Meaning::key_at))]
 #[cycle(equal)]
 fn equal_place(m: &mut Machine, levels: u32, d: ObjRef, e: ObjRef, i: usize) -> Result<bool, Stop>
     ensures { Runs (spec.equal_place (spec.equal_below levels) d e i m.old) result m.new }
@@ -290,7 +260,7 @@ fn equal_place(m: &mut Machine, levels: u32, d: ObjRef, e: ObjRef, i: usize) -> 
 
 // The key of a dictionary at a place from 0, if there is one.
 fn key_there(m: &Machine, d: ObjRef, i: usize) -> Result<Option<Key>, NoMemory>
-    ensures { IfOk result (λ key. key ≡ spec.key_if (key_in m.now d i)) }
+    ensures { IfOk result (λ key. key ≡ key_if (key_in m.now d i)) }
 {
     match m.key_at(d, i)? {
         Some(spelled) => key_of(m.alloc, &spelled),

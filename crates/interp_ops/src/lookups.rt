@@ -3,17 +3,13 @@ ghost use Rattle.std.specs.Prelude.{◌≡◌, IfOk, Ok, Some};
 ghost use Rattle.std.specs.Option.{option_copied};
 ghost use Rattle.heap_objects.specs.State.{object_at};
 ghost use Rattle.heap_objects.specs.declared.value.Value.{out-Value};
-ghost use Rattle.interp_ops.specs.Meaning.{Runs, object_value};
+ghost use Rattle.interp_machine.specs.Meaning.{Runs, object_value};
 ghost use Rattle.interp_ops.specs.Lookups as spec;
 
-use crate::errors::{fault, fault_named};
-use crate::kinds::Kind;
-use crate::machine::Machine;
-use crate::stop::Stop;
-use crate::symbols::is_among;
 use exceptions_core::FaultKind;
 use flow_base::{Held, Loc, NoMemory, ObjRef, Sym};
 use heap_objects::{NESTING_LIMIT, Object, Value};
+use interp_machine::{Kind, Machine, Stop, base_of, fault, fault_named, is_among};
 
 // The built-in methods of lists, dictionaries, texts and tuples.
 const LIST_METHODS: [u64; 11] = [39, 40, 41, 42, 44, 47, 48, 52, 53, 55, 57];
@@ -27,7 +23,7 @@ const TUPLE_METHODS: [u64; 2] = [42, 47];
 /// What an attribute of a value is: of an instance what it holds itself, or its class or the first class above that holds it, where a function
 /// becomes a bound method; of a class what it or the first class above holds; of a list, a dictionary, a text or a tuple its built-in method.
 /// AttributeError where there is none, and RecursionError where a method would nest over the limit.
-#[tactic(auto, unfolding(crate::specs::Lookups::lookup, crate::specs::Kinds::kind))]
+#[tactic(auto, unfolding(crate::specs::Lookups::lookup, interp_machine::specs::Kinds::kind))]
 pub fn lookup(m: &mut Machine, v: &Value, a: Sym) -> Result<Value, Stop>
     ensures { Runs (spec.lookup v.now a m.old) result m.new }
 {
@@ -52,7 +48,7 @@ pub fn lookup(m: &mut Machine, v: &Value, a: Sym) -> Result<Value, Stop>
 }
 
 // What a class or the first class above it that has the attribute holds there.
-#[tactic(auto, unfolding(crate::specs::Lookups::find, crate::specs::Meaning::fixed))]
+#[tactic(auto, unfolding(crate::specs::Lookups::find, interp_machine::specs::Meaning::fixed))]
 fn find(m: &mut Machine, class: Value, a: Sym) -> Result<Option<Value>, Stop>
     ensures { Runs (spec.find a class m.old) result m.new }
 {
@@ -67,7 +63,7 @@ fn find(m: &mut Machine, class: Value, a: Sym) -> Result<Option<Value>, Stop>
                 match found {
                     Err(stop) => return Err(stop),
                     Ok(Some(x)) => return Ok(Some(x)),
-                    Ok(None) => above = base_of(m, c)?,
+                    Ok(None) => above = copy_if(base_of(m, c))?,
                 }
             }
         }
@@ -102,23 +98,8 @@ fn class_ref(v: &Value) -> Option<ObjRef>
     }
 }
 
-// The base of a class, if it has one.
-fn base_of(m: &Machine, c: ObjRef) -> Result<Option<Value>, NoMemory>
-    ensures { IfOk result (λ base. base ≡ spec.base_in (object_at m.now.heap c)) }
-{
-    match m.fixed(c) {
-        Some(Object::Class { base, .. }) => copy_if(base),
-        Some(Object::Frame(_)) => Ok(None),
-        Some(Object::List) => Ok(None),
-        Some(Object::Dict) => Ok(None),
-        Some(Object::Instance(_)) => Ok(None),
-        Some(Object::Function { .. }) => Ok(None),
-        None => Ok(None),
-    }
-}
-
-fn copy_if(v: &Option<Value>) -> Result<Option<Value>, NoMemory>
-    ensures { IfOk result (λ copy. copy ≡ v.now) }
+fn copy_if(v: Option<&Value>) -> Result<Option<Value>, NoMemory>
+    ensures { IfOk result (λ copy. copy ≡ option_copied v.entry) }
 {
     match v {
         Some(x) => Ok(Some(x.copy()?)),
@@ -163,7 +144,7 @@ fn bind(m: &mut Machine, a: Sym, receiver: ObjRef, found: Option<Value>) -> Resu
     }
 }
 
-#[tactic(auto, unfolding(crate::specs::Meaning::fixed))]
+#[tactic(auto, unfolding(interp_machine::specs::Meaning::fixed))]
 fn bound_at(m: &Machine, receiver: ObjRef, x: Value) -> Value
     ensures { spec.bound_at receiver x (out-Value x) m.now ≡ (Ok result, m.now) }
 {

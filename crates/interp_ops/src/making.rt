@@ -1,14 +1,12 @@
 // New lists, tuples, texts and dictionaries.
 ghost use Rattle.std.specs.Prelude.{◌≡◌, IfOk};
+ghost use Rattle.interp_machine.specs.Meaning.{Runs};
 ghost use Rattle.interp_ops.specs.Making as spec;
-ghost use Rattle.interp_ops.specs.Meaning.{Runs};
 
-use crate::errors::fault;
-use crate::machine::Machine;
-use crate::stop::Stop;
 use exceptions_core::FaultKind;
 use flow_base::{NoMemory, PyText};
 use heap_objects::{Value, Values, key_of};
+use interp_machine::{Machine, Stop, fault};
 use std::alloc::Global;
 
 /// A new list of these items, for a step each.

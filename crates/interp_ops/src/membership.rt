@@ -1,23 +1,19 @@
 // Membership in a text, a dictionary, or what is walked.
 ghost use Rattle.std.specs.Prelude.{◌≡◌, suc};
 ghost use Rattle.heap_objects.specs.Keyed as keyed;
+ghost use Rattle.interp_machine.specs.Meaning.{Runs};
 ghost use Rattle.interp_ops.specs.Equality.{equal};
-ghost use Rattle.interp_ops.specs.Meaning.{Runs};
 ghost use Rattle.interp_ops.specs.Operators as spec;
 
 use crate::equality::equal;
-use crate::errors::fault;
-use crate::kinds::Kind;
-use crate::machine::Machine;
-use crate::stop::Stop;
-use crate::walks::{Walker, next, walk};
 use exceptions_core::FaultKind;
 use flow_base::{ObjRef, PyText};
 use heap_objects::{Value, key_of};
+use interp_machine::{Kind, Machine, Stop, Walker, fault, next, walk};
 use py_scalars::find;
 
 /// `v in c`
-#[tactic(auto, unfolding(crate::specs::Operators::contains, crate::specs::Kinds::kind))]
+#[tactic(auto, unfolding(crate::specs::Operators::contains, interp_machine::specs::Kinds::kind))]
 pub fn contains(m: &mut Machine, v: &Value, c: &Value) -> Result<bool, Stop>
     ensures { Runs (spec.contains v.now c.now m.old) result m.new }
 {

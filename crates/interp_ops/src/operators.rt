@@ -1,22 +1,19 @@
 // Operators of two operands and of one.
 ghost use Rattle.std.specs.Prelude.{◌≡◌, ◌-ℤ◌, length};
+ghost use Rattle.interp_machine.specs.Meaning.{Runs, steps};
+ghost use Rattle.interp_machine.specs.Walks as walks;
 ghost use Rattle.interp_ops.specs.Making as making;
-ghost use Rattle.interp_ops.specs.Meaning.{Runs, steps};
 ghost use Rattle.interp_ops.specs.Operators as spec;
-ghost use Rattle.interp_ops.specs.Walks as walks;
 ghost use Rattle.interp_ops.specs.declared.operators.BinaryOp.TheVariants.{Add, Sub, Mul, FloorDiv, Mod, Power};
 ghost use Rattle.py_scalars.specs.Exact.{divided, exact, floor_quotient, floor_remainder};
 
-use crate::errors::fault;
 use crate::joining::{joined_texts, joined_values, repeated_text, repeated_values};
-use crate::kinds::{Kind, Pair, Product};
-use crate::machine::Machine;
 use crate::making::{make_list, make_text, make_tuple, tuple};
-use crate::stop::Stop;
-use crate::walks::{Walker, collect};
+use crate::products::{Product, times};
 use exceptions_core::FaultKind;
 use flow_base::{ObjRef, PyText};
 use heap_objects::{Value, Values};
+use interp_machine::{Kind, Machine, Pair, Stop, Walker, collect, fault};
 use py_scalars::{NumFault, add, floor_div, modulo, mul, power, sub};
 
 /// An arithmetic operator of two operands (Python reference 6.5 and 6.7).
@@ -31,7 +28,7 @@ pub enum BinaryOp {
 }
 
 /// The value of an operator of two operands.
-#[tactic(auto, unfolding(crate::specs::Operators::binary, crate::specs::Kinds::pair, crate::specs::Operators::product))]
+#[tactic(auto, unfolding(crate::specs::Operators::binary, interp_machine::specs::Kinds::pair, crate::specs::Operators::product))]
 pub fn binary(m: &mut Machine, op: BinaryOp, a: &Value, b: &Value) -> Result<Value, Stop>
     ensures { Runs (spec.binary op a.now b.now m.old) result m.new }
 {
@@ -39,7 +36,7 @@ pub fn binary(m: &mut Machine, op: BinaryOp, a: &Value, b: &Value) -> Result<Val
     match op {
         BinaryOp::Add => sum(m, x.pair(y)),
         BinaryOp::Sub => difference(m, x.pair(y)),
-        BinaryOp::Mul => product(m, x.times(y)),
+        BinaryOp::Mul => product(m, times(x, y)),
         BinaryOp::FloorDiv => quotient(m, x.pair(y)),
         BinaryOp::Mod => remainder(m, x.pair(y)),
         BinaryOp::Power => raised(m, x.pair(y)),
@@ -198,7 +195,7 @@ fn answered(m: &mut Machine, n: Result<i128, NumFault>) -> Result<Value, Stop>
 }
 
 /// `-v`
-#[tactic(auto, unfolding(crate::specs::Operators::negate, crate::specs::Kinds::kind))]
+#[tactic(auto, unfolding(crate::specs::Operators::negate, interp_machine::specs::Kinds::kind))]
 pub fn negate(m: &mut Machine, v: &Value) -> Result<Value, Stop>
     ensures { Runs (spec.negate v.now m.old) result m.new }
 {
@@ -209,7 +206,7 @@ pub fn negate(m: &mut Machine, v: &Value) -> Result<Value, Stop>
 }
 
 /// `+v`
-#[tactic(auto, unfolding(crate::specs::Operators::plus, crate::specs::Kinds::kind))]
+#[tactic(auto, unfolding(crate::specs::Operators::plus, interp_machine::specs::Kinds::kind))]
 pub fn plus(m: &mut Machine, v: &Value) -> Result<Value, Stop>
     ensures { Runs (spec.plus v.now m.old) result m.new }
 {

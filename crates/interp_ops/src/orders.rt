@@ -1,16 +1,13 @@
 // The order of values.
 ghost use Rattle.std.specs.Prelude.{◌≡◌, ◌↔◌, IsTrue, Some};
+ghost use Rattle.interp_machine.specs.Meaning.{Runs};
 ghost use Rattle.interp_ops.specs.Equality.{both, equal_below};
-ghost use Rattle.interp_ops.specs.Meaning.{Runs};
 ghost use Rattle.interp_ops.specs.Orders as spec;
 
-use crate::equality::{both_equal, lengths, levels_left, pair, sides};
-use crate::errors::fault;
-use crate::kinds::Pair;
-use crate::machine::Machine;
-use crate::stop::Stop;
+use crate::equality::{both_equal, lengths, sides};
 use exceptions_core::FaultKind;
 use heap_objects::Value;
+use interp_machine::{Machine, Pair, Stop, fault};
 use std::cmp::Ordering;
 
 /// Whether a value comes before another: numbers by value, texts by code points, and tuples and lists by the first pair of parts that is not
@@ -19,7 +16,7 @@ use std::cmp::Ordering;
 pub fn less(m: &mut Machine, a: &Value, b: &Value) -> Result<bool, Stop>
     ensures { Runs (spec.less a.now b.now m.old) result m.new }
 {
-    let levels = levels_left(m);
+    let levels = m.levels_left();
     less_with(m, levels, false, a, b)
 }
 
@@ -28,7 +25,7 @@ pub fn less(m: &mut Machine, a: &Value, b: &Value) -> Result<bool, Stop>
 pub fn less_or_equal(m: &mut Machine, a: &Value, b: &Value) -> Result<bool, Stop>
     ensures { Runs (spec.less_or_equal a.now b.now m.old) result m.new }
 {
-    let levels = levels_left(m);
+    let levels = m.levels_left();
     less_with(m, levels, true, a, b)
 }
 
@@ -45,12 +42,12 @@ fn less_below(m: &mut Machine, levels: u32, a: &Value, b: &Value) -> Result<bool
 }
 
 // Whether a value comes before another, or where both may be equal, before it or equal.
-#[tactic(auto, unfolding(crate::specs::Orders::less_with, crate::specs::Kinds::pair))]
+#[tactic(auto, unfolding(crate::specs::Orders::less_with, interp_machine::specs::Kinds::pair))]
 #[cycle(less)]
 fn less_with(m: &mut Machine, levels: u32, same: bool, a: &Value, b: &Value) -> Result<bool, Stop>
     ensures { Runs (spec.less_with (equal_below levels) (spec.less_below levels) same a.now b.now m.old) result m.new }
 {
-    let both = pair(m, a, b)?;
+    let both = m.pair(a, b)?;
     less_pair(m, levels, same, &both)
 }
 

@@ -1,22 +1,20 @@
 // Items of values: read, stored and deleted.
 ghost use Rattle.std.specs.Prelude.{◌≡◌, ◌+ℤ◌, ◌*ℤ◌, ◌/◌, pos, IfOk, IfSome, ◌<◌, drop, []};
 ghost use Rattle.heap_objects.specs.Keyed as keyed;
-ghost use Rattle.interp_ops.specs.Meaning.{Runs};
+ghost use Rattle.interp_machine.specs.Meaning.{Runs};
 ghost use Rattle.interp_ops.specs.Subscripts as spec;
 
-use crate::errors::{fault, raise_with};
 use crate::joining::joined_values;
-use crate::kinds::Kind;
-use crate::machine::Machine;
-use crate::stop::Stop;
-use crate::walks::{after, item, point_value, range_size};
 use exceptions_core::{ExcClass, FaultKind};
 use flow_base::{Key, Loc, NoMemory, ObjRef, PyText, ReadHow, Shared};
 use heap_objects::{Value, Values, key_of};
+use interp_machine::{
+    Kind, Machine, Stop, after, fault, item, point_value, raise_with, range_size,
+};
 use std::alloc::Global;
 
 /// `a[i]`
-#[tactic(auto, unfolding(crate::specs::Subscripts::subscript, crate::specs::Kinds::kind))]
+#[tactic(auto, unfolding(crate::specs::Subscripts::subscript, interp_machine::specs::Kinds::kind))]
 pub fn subscript(m: &mut Machine, a: &Value, i: &Value) -> Result<Value, Stop>
     ensures { Runs (spec.subscript a.now i.now m.old) result m.new }
 {
@@ -187,7 +185,7 @@ fn dict_at(m: &mut Machine, d: ObjRef, key: &Value) -> Result<Value, Stop>
 }
 
 /// `a[i] = v`
-#[tactic(auto, unfolding(crate::specs::Subscripts::store_item, crate::specs::Kinds::kind))]
+#[tactic(auto, unfolding(crate::specs::Subscripts::store_item, interp_machine::specs::Kinds::kind))]
 pub fn store_item(m: &mut Machine, a: &Value, i: &Value, v: Value) -> Result<(), Stop>
     ensures { Runs (spec.store_item a.now i.now v m.old) result m.new }
 {
@@ -234,7 +232,7 @@ fn dict_store(m: &mut Machine, d: ObjRef, key: &Value, v: Value) -> Result<(), S
 }
 
 /// `del a[i]`
-#[tactic(auto, unfolding(crate::specs::Subscripts::delete_item, crate::specs::Kinds::kind))]
+#[tactic(auto, unfolding(crate::specs::Subscripts::delete_item, interp_machine::specs::Kinds::kind))]
 pub fn delete_item(m: &mut Machine, a: &Value, i: &Value) -> Result<(), Stop>
     ensures { Runs (spec.delete_item a.now i.now m.old) result m.new }
 {

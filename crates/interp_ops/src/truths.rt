@@ -1,19 +1,16 @@
 // Truth and identity of values.
 ghost use Rattle.std.specs.Prelude.{◌≡◌, map};
 ghost use Rattle.std.specs.Str.{bytes_eq};
-ghost use Rattle.interp_ops.specs.Meaning.{Runs};
+ghost use Rattle.interp_machine.specs.Meaning.{Runs};
 ghost use Rattle.interp_ops.specs.Truths as spec;
 
-use crate::kinds::Kind;
-use crate::machine::Machine;
-use crate::stop::Stop;
-use crate::walks::range_size;
 use flow_base::{ObjRef, PyText, ReadHow};
 use heap_objects::Value;
+use interp_machine::{Kind, Machine, Stop, range_size};
 
 /// Whether a value counts as true: all but None, False, 0, an empty text, tuple or range, and a list or a dictionary without entries,
 /// whose shape is used (Python library reference, "Truth Value Testing").
-#[tactic(auto, unfolding(crate::specs::Truths::truth, crate::specs::Kinds::kind))]
+#[tactic(auto, unfolding(crate::specs::Truths::truth, interp_machine::specs::Kinds::kind))]
 pub fn truth(m: &mut Machine, v: &Value) -> Result<bool, Stop>
     ensures { Runs (spec.truth v.now m.old) result m.new }
 {

@@ -1,6 +1,6 @@
 use Rattle.interp_laws.specs.Formed.{Allowed, AllowedAll, AllowedObject, AllowedStep, AllowedWalk, Any, IsFormed}
-use Rattle.interp_ops.proofs.Kept.{contains_kept, equal_kept, less_kept, less_or_equal_kept, truth_kept}
-use Rattle.interp_ops.proofs.KeptTexts.{show_kept, to_str_kept}
+use Rattle.interp_laws.proofs.Kept.{contains_kept, equal_kept, less_kept, less_or_equal_kept, truth_kept}
+use Rattle.interp_laws.proofs.KeptTexts.{show_kept, to_str_kept}
 use Rattle.interp_laws.proofs.Lawful.{collect_lawful, ends, ends_kept, error_of_lawful, error_with_lawful, formed_reads, make_dict_lawful, make_list_lawful, make_text_lawful, make_tuple_lawful, next_lawful, walk_lawful}
 use Rattle.interp_laws.proofs.LawfulOps.{binary_lawful, delete_item_lawful, lookup_lawful, negate_lawful, plus_lawful, store_item_lawful, subscript_lawful}
 use Rattle.interp_laws.proofs.laws.formed_law.Goals as goal

@@ -1,7 +1,7 @@
 use Rattle.std.proofs.Common.{◌≡◌, ◌≢◌, ◌∙◌, true, false, Ok, Err, rules, arith, add-one}
+use Rattle.interp_machine.proofs.RunsLaws.{runs_as}
 use Rattle.interp_ops.specs.Equality.{equal_below, equal_place, equal_sides}
 use Rattle.interp_ops.proofs.EqualLaws.{all_from_done, all_from_fails, all_from_more, all_from_stops, deeper}
-use Rattle.interp_ops.proofs.RunsLaws.{runs_as}
 use Rattle.interp_ops.proofs.equality.+equal.Goals as goal
 
 pub equal_below-returns : goal.equal_below-returns

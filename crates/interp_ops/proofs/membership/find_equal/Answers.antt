@@ -1,9 +1,9 @@
 use Rattle.std.proofs.Common.{◌≡◌, ◌≢◌, ◌∙◌, false, Some, Ok, rules, arith}
+use Rattle.interp_machine.specs.Walks.{next}
+use Rattle.interp_machine.proofs.RunsLaws.{runs_as}
 use Rattle.interp_ops.specs.Equality.{equal}
 use Rattle.interp_ops.specs.Operators.{find_equal}
-use Rattle.interp_ops.specs.Walks.{next}
 use Rattle.interp_ops.proofs.FoundLaws.{found_more, found_err}
-use Rattle.interp_ops.proofs.RunsLaws.{runs_as}
 use Rattle.interp_ops.proofs.membership.find_equal.Goals as goal
 
 pub returns-in_err-part_equal-in-Some : goal.returns-in_err-part_equal-in-Some

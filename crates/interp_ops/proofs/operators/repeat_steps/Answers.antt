@@ -1,8 +1,8 @@
 use Rattle.std.proofs.Common.{◌≡◌, ◌<◌, ◌+◌, ◌≤◌, ◌*◌, ◌^◌, rules, arith, length, ap}
-use Rattle.interp_ops.specs.Meaning.{steps}
+use Rattle.interp_machine.specs.Meaning.{steps}
+use Rattle.interp_machine.proofs.RunsLaws.{runs_as}
 use Rattle.interp_ops.specs.Operators.{repeated}
 use Rattle.interp_ops.proofs.Repeating.{length-repeated, steps_past}
-use Rattle.interp_ops.proofs.RunsLaws.{runs_as}
 use Rattle.interp_ops.proofs.operators.repeat_steps.Goals as goal
 
 pub returns-in-Some : goal.returns-in-Some

@@ -1,9 +1,9 @@
 use Rattle.std.proofs.Common.{◌≡◌, ◌≢◌, ◌∙◌, Ok, Err, rules, arith, add-one}
 use Rattle.std.specs.Prelude.{Some, None}
+use Rattle.interp_machine.proofs.RunsLaws.{runs_as}
 use Rattle.interp_ops.specs.Equality.{equal_below}
 use Rattle.interp_ops.specs.Orders.{decided_at, less_below}
 use Rattle.interp_ops.proofs.OrderLaws.{first_from_done, first_from_ends, first_from_more, first_from_stops, less_deeper}
-use Rattle.interp_ops.proofs.RunsLaws.{runs_as}
 use Rattle.interp_ops.proofs.orders.+less.Goals as goal
 
 pub less_below-returns : goal.less_below-returns

@@ -1,6 +1,6 @@
 use Rattle.std.proofs.Common.{◌≡◌, ◌≢◌, ◌∙◌, Ok, rules, arith}
 use Rattle.heap_objects.specs.State.{item}
-use Rattle.interp_ops.specs.Meaning.{load, steps}
+use Rattle.interp_machine.specs.Meaning.{load, steps}
 use Rattle.interp_ops.proofs.UsedLaws.{used_more}
 use Rattle.interp_ops.proofs.subscripts.used_from.Goals as goal
 

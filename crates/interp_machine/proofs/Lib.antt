@@ -1,0 +1,4 @@
+mod ClassLaws
+mod RangeLaws
+pub mod RunsLaws
+pub mod WalkLaws

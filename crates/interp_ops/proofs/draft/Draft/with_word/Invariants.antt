@@ -1,5 +1,0 @@
-use Rattle.std.proofs.Common.{◌≡◌, ◌++◌, drop}
-use Rattle.interp_ops.proofs.draft.Draft.with_word.Given as goal
-
-abbrev pub invariant-loop-byte : goal.invariant-loop-byte
-invariant-loop-byte l = l.points.items ++ drop l.byte-index l.byte-items ≡ l.fn.self ++ l.word
