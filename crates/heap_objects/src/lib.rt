@@ -26,6 +26,3 @@ pub use laws::{events_law, formed_law, keeps_law, makes_law, sound_law, values_l
 pub use object::{Content, Object};
 pub use storing::Syms;
 pub use value::{NESTING_LIMIT, Value, Values};
-
-#[cfg(test)]
-mod tests;

@@ -9,8 +9,6 @@ mod kernel;
 mod law;
 mod lineage;
 mod state;
-#[cfg(test)]
-mod tests;
 
 pub use accepted::Accepted;
 pub use kernel::{Kernel, STEPS_LIMIT};

@@ -10,6 +10,3 @@ pub use number_form::{number_text, read_number};
 pub use numbers::{NumFault, add, division_law, floor_div, modulo, mul, negate, power, sub};
 pub use search::{Texts, find, replace, split, split_white, strip};
 pub use text_form::{TextFault, literal_law, read_text, repr_text};
-
-#[cfg(test)]
-mod tests;

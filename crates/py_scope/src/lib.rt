@@ -23,6 +23,3 @@ pub use laws::{nodes_law, params_law, place_law};
 pub use name_list::NameList;
 pub use place::NamePlace;
 pub use walk::scopes;
-
-#[cfg(test)]
-mod tests;

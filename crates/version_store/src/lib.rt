@@ -9,8 +9,6 @@ mod latest;
 mod locations;
 mod runs;
 mod store;
-#[cfg(test)]
-mod tests;
 mod within;
 
 pub use store::Versions;

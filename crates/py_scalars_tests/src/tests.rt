@@ -1,9 +1,9 @@
 // Tables of outside examples: the answers are those of the Python references.
-use crate::{
+use flow_base::{NoMemory, PyText};
+use py_scalars::{
     NumFault, TextFault, Texts, add, find, floor_div, modulo, mul, negate, number_text, power,
     read_number, read_text, replace, repr_text, split, split_white, strip, sub,
 };
-use flow_base::{NoMemory, PyText};
 use std::alloc::Global;
 use std::test::Fail;
 

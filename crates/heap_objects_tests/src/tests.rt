@@ -1,8 +1,8 @@
 // Each public call with ample memory. The helpers are short, since each is proved too.
-use crate::{Heap, Object, Value, Values, key_of};
 use flow_base::{
     CodeRef, Event, How, Key, Loc, NoMemory, ObjRef, ReadHow, RunNo, Shared, Sym, same_key,
 };
+use heap_objects::{Heap, Object, Value, Values, key_of};
 use std::alloc::Global;
 use std::test::Fail;
 

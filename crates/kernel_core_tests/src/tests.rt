@@ -1,9 +1,9 @@
 // Asks and their replies, as a session shows them.
-use crate::{
-    Kernel, answer_law, clean_law, clean_reply_law, clean_run_law, show_law, stale_run_law,
-};
 use flow_base::{NoMemory, PyText};
 use flow_wire::{Ask, MarkText, Reply, write_reply};
+use kernel_core::{
+    Kernel, answer_law, clean_law, clean_reply_law, clean_run_law, show_law, stale_run_law,
+};
 use std::alloc::Global;
 use std::test::Fail;
 

@@ -2,9 +2,9 @@
 // has for the same text (`symtable`; the order of the slots is that of `co_varnames`, where a name is in no closure).
 ghost use Rattle.std.specs.Prelude.{◌+◌, ◌<◌, ◌^◌};
 
-use crate::{Coded, Codes, NameList, NamePlace, ScopeFault, Scopes, scopes};
 use flow_base::{Held, NoMemory, PyText, RunNo, Shared};
 use py_ast::{BinaryOp, Branch, Cell, Expr, Handler, Stmt, Stmts, Texts};
+use py_scope::{Coded, Codes, NameList, NamePlace, ScopeFault, Scopes, scopes};
 use std::alloc::Global;
 use std::test::Fail;
 

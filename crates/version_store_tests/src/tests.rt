@@ -1,9 +1,9 @@
 // A session of four lines: x = 1, y = x, z = y and x = 2, with the symbols 0, 1 and 2.
-use crate::Versions;
 use flow_base::{Event, How, Key, Loc, NoMemory, ObjRef, RunNo, Sym};
 use std::alloc::Global;
 use std::test::Fail;
 use trace_events::{Seen, Version, summarize};
+use version_store::Versions;
 
 fn name(symbol: u64) -> Loc {
     Loc::Name(ObjRef(0), Sym(symbol))

@@ -1,0 +1,5 @@
+//! Tests of `kernel_core`: asks and their replies.
+#![tactic(auto)]
+
+#[cfg(test)]
+mod tests;
