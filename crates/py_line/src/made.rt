@@ -1,5 +1,5 @@
 // What is made of parts that were read. The numbers of the nodes are 0.
-ghost use Rattle.std.specs.Prelude.{◌≡◌, ◌∷◌, [], ◌++◌, ◌+◌, ◌&&◌, IfOk, None, length, option_map};
+ghost use Rattle.std.specs.Prelude.{◌≡◌, ◌+◌, ◌&&◌, IfOk, None, length, option_map};
 ghost use Rattle.py_ast.specs.Tree as t;
 ghost use Rattle.py_ast.specs.View.{view, views};
 ghost use Rattle.py_grammar.specs.Kept as k;
@@ -420,16 +420,6 @@ pub(crate) fn no_trees(alloc: Global) -> KeptAll
     KeptAll::All(Vec::new(alloc), 0)
 }
 
-/// Whether there are none.
-pub(crate) fn is_none_kept(all: &KeptAll) -> bool
-    ensures { result ≡ k.is_none_kept (all_of all.now) }
-{
-    match all {
-        KeptAll::All(es, _) => es.is_empty(),
-        KeptAll::OneDeep(_) | KeptAll::SomeDeep(_) => false,
-    }
-}
-
 /// One more behind some.
 pub(crate) fn push(all: KeptAll, a: Kept) -> Result<KeptAll, NoMemory>
     ensures { IfOk result (λ x. all_of x ≡ k.push_kept (all_of all) (kept_of a)) }
@@ -501,18 +491,6 @@ pub(crate) fn no_params(alloc: Global) -> Parameters
         names: Vec::new(alloc),
         defaults: no_trees(alloc),
     }
-}
-
-/// One parameter more, without a default.
-pub(crate) fn with_plain(s: Parameters, x: PyText) -> Result<Parameters, NoMemory>
-    ensures { IfOk result (λ p. params_of p ≡ ((params_of s).0 ++ x ∷ [], (params_of s).1)) }
-{
-    let Parameters {
-        mut names,
-        defaults,
-    } = s;
-    names.push(x)?;
-    Ok(Parameters { names, defaults })
 }
 
 /// One parameter more, with its default.
