@@ -106,10 +106,6 @@ mutual
 
 -- ---- cells
 
--- lines that are a cell
-abbrev pub SpellsBlock : List Placed → Block → Type 0
-SpellsBlock lines b = Stands top lines b
-
 -- lines that begin a cell
 abbrev pub Begins : List Placed → Type 0
 Begins lines = (more : List Placed) × (b : Block) × Stands top (lines ++ more) b

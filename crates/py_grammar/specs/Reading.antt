@@ -364,19 +364,6 @@ module _ (most : ℕ) where
   abbrev pub disjunctions : Inside → Reader Kept
   disjunctions inside = grouped_over ors (conjunctions inside)
 
-  -- a level of operators that group to the left
-  abbrev pub grouped : Inside → Group → Reader Kept
-  grouped inside terms = term inside
-  grouped inside sums = sum inside
-  grouped inside ands = conjunctions inside
-  grouped inside ors = disjunctions inside
-
-  abbrev pub operand_of : Inside → Group → Reader Kept
-  operand_of inside terms = factor inside
-  operand_of inside sums = term inside
-  operand_of inside ands = negated inside
-  operand_of inside ors = conjunctions inside
-
   -- ---- lists
 
   unfoldable pub condition : Inside → Kept × List Sign → Option (Kept × List Sign)

@@ -240,13 +240,6 @@ slots_of (Some scope) = slots_in scope.kind scope.locals
 abbrev pub slots_at : List Seat → ℕ → List (List ℕ)
 slots_at seats node = slots_of (own_in (seat_at seats node))
 
--- The place of a name that is used or bound at a node of a cell, and the slots of a function in it: functions of the cell alone.
-abbrev pub place_in_cell : Cell → ℕ → List ℕ → NamePlace
-place_in_cell c node name = place_at (seats_of_cell c) node name
-
-abbrev pub slots_in_cell : Cell → ℕ → List (List ℕ)
-slots_in_cell c node = slots_at (seats_of_cell c) node
-
 -- what is answered to a cell: its scopes where no declaration has a fault, and else the first declaration that has one
 abbrev pub Gives : Cell → Result (List Seat) ScopeFault → Type 0
 Gives c (Ok seats) = (first_fault c ≡ None) × (seats ≡ seats_of_cell c)

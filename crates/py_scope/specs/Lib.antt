@@ -4,4 +4,3 @@ pub mod Scopes
 pub mod Faults
 pub mod Chart
 pub mod Building
-pub mod CodeTable
