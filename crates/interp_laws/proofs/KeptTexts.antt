@@ -119,7 +119,7 @@ module _ (I : Machine → Type 0) (G : Machine → Value → Type 0) (prims : Re
   used_from_kept o i zero done = kept-pure I G _
   used_from_kept o i (suc n) done = kept-bind I G _ _ (load_kept _) (λ x. kept-bind I G _ _ (steps_kept 1) (λ u. used_from_kept o (suc i) n _))
 
-  splice_kept : (o : ObjRef) (i : ℕ) (tail : List Value) → Kept I G (sub.splice o i tail)
+  pub splice_kept : (o : ObjRef) (i : ℕ) (tail : List Value) → Kept I G (sub.splice o i tail)
   unfolding sub.splice
   splice_kept o i tail = kept-bind I G _ _ (steps_kept _) (λ u. list_splice_kept o i tail)
 

@@ -342,7 +342,7 @@ module _ (codes : Codes) (steady : AreSteadyCodes codes) where
       lawful-bind (steps_lawful s _) (λ t l u q.
       lawful-bind (new_list_lawful t items (good_all s t l items h)) (λ r j o g. object_lawful r o g))
 
-  tuple_lawful : (s : State) (xs : List Value) → AllowedAll codes s xs → Lawful (Allowed codes) s (tuple xs)
+  pub tuple_lawful : (s : State) (xs : List Value) → AllowedAll codes s xs → Lawful (Allowed codes) s (tuple xs)
   tuple_lawful s xs h =
       lawful-cond (Allowed codes) s _ _ _ (λ e. fault_lawful (Allowed codes) s _)
       (λ e. lawful-pure (Allowed codes) s _ (λ t l. good_more s t l (tuple_of xs) (allowed_tuple (rules_of codes) s xs e h)))

@@ -355,7 +355,7 @@ module _ (codes : Codes) (steady : AreSteadyCodes codes) where
       lawful-bind codes steady (load_lawful codes steady s _) (λ t l x q.
       lawful-bind codes steady (steps_lawful codes steady t 1) (λ r j u g. used_from_lawful n r o (suc i) _ (with_part_good r done x (good_all codes steady s r (keeps_then s t r l j) done h) (good_if codes steady t r j x q))))
 
-  splice_lawful : (s : State) (o : ObjRef) (i : ℕ) (tail : List Value) → AllowedAll codes s tail → Lawful codes steady Any s (sub.splice o i tail)
+  pub splice_lawful : (s : State) (o : ObjRef) (i : ℕ) (tail : List Value) → AllowedAll codes s tail → Lawful codes steady Any s (sub.splice o i tail)
   unfolding sub.splice
   splice_lawful s o i tail h = lawful-bind codes steady (steps_lawful codes steady s _) (λ t l u q. list_splice_lawful codes steady t o i tail (good_all codes steady s t l tail h))
 

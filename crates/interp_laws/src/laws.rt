@@ -2,6 +2,7 @@
 ghost use Rattle.std.specs.Prelude.{ℕ, List};
 ghost use Rattle.exceptions_core.specs.declared.class.ExcClass.{ExcClass};
 ghost use Rattle.exceptions_core.specs.declared.error.FaultKind.{FaultKind};
+ghost use Rattle.flow_base.specs.declared.numbers.ObjRef.{ObjRef};
 ghost use Rattle.flow_base.specs.declared.numbers.Sym.{Sym};
 ghost use Rattle.heap_objects.specs.declared.value.Value.{Value};
 ghost use Rattle.interp_laws.specs.Formed.{Allowed, AllowedAll, AllowedObject, AllowedStep, AllowedWalk, Any, AreSteadyCodes, Codes, Ends, IsFormed};
@@ -35,12 +36,14 @@ pub fn formed_law()
     ensures subscript { (codes : Codes) (a i : Value) (m : Machine) → AreSteadyCodes codes → IsFormed codes m → Allowed codes m.heap a → Allowed codes m.heap i → Ends codes (Allowed codes) (subscripts.subscript a i m) }
     ensures store_item { (codes : Codes) (a i v : Value) (m : Machine) → AreSteadyCodes codes → IsFormed codes m → Allowed codes m.heap i → Allowed codes m.heap v → Ends codes Any (subscripts.store_item a i v m) }
     ensures delete_item { (codes : Codes) (a i : Value) (m : Machine) → AreSteadyCodes codes → IsFormed codes m → Allowed codes m.heap i → Ends codes Any (subscripts.delete_item a i m) }
+    ensures splice { (codes : Codes) (o : ObjRef) (from : ℕ) (tail : List Value) (m : Machine) → AreSteadyCodes codes → IsFormed codes m → AllowedAll codes m.heap tail → Ends codes Any (subscripts.splice o from tail m) }
     ensures lookup { (codes : Codes) (v : Value) (a : Sym) (m : Machine) → AreSteadyCodes codes → IsFormed codes m → Allowed codes m.heap v → Ends codes (Allowed codes) (lookups.lookup v a m) }
     ensures walk { (codes : Codes) (v : Value) (m : Machine) → AreSteadyCodes codes → IsFormed codes m → Allowed codes m.heap v → Ends codes (AllowedWalk codes) (walks.walk v m) }
     ensures next { (codes : Codes) (w : Walker) (m : Machine) → AreSteadyCodes codes → IsFormed codes m → AllowedWalk codes m.heap w → Ends codes (AllowedStep codes) (walks.next w m) }
     ensures collect { (codes : Codes) (w : Walker) (m : Machine) → AreSteadyCodes codes → IsFormed codes m → AllowedWalk codes m.heap w → Ends codes (AllowedAll codes) (walks.collect w m) }
     ensures make_list { (codes : Codes) (items : List Value) (m : Machine) → AreSteadyCodes codes → IsFormed codes m → AllowedAll codes m.heap items → Ends codes (Allowed codes) (making.make_list items m) }
     ensures make_tuple { (codes : Codes) (parts : List Value) (m : Machine) → AreSteadyCodes codes → IsFormed codes m → AllowedAll codes m.heap parts → Ends codes (Allowed codes) (making.make_tuple parts m) }
+    ensures tuple { (codes : Codes) (parts : List Value) (m : Machine) → AreSteadyCodes codes → IsFormed codes m → AllowedAll codes m.heap parts → Ends codes (Allowed codes) (making.tuple parts m) }
     ensures make_text { (codes : Codes) (t : List ℕ) (m : Machine) → AreSteadyCodes codes → IsFormed codes m → Ends codes (Allowed codes) (making.make_text t m) }
     ensures make_dict { (codes : Codes) (keys values : List Value) (m : Machine) → AreSteadyCodes codes → IsFormed codes m → AllowedAll codes m.heap keys → AllowedAll codes m.heap values → Ends codes (Allowed codes) (making.make_dict keys values m) }
     ensures error_of { (codes : Codes) (kind : FaultKind) (name : List ℕ) (m : Machine) → AreSteadyCodes codes → IsFormed codes m → Ends codes (AllowedObject codes) (meaning.error_of kind name m) }

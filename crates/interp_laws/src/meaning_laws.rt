@@ -2,6 +2,7 @@
 ghost use Rattle.std.specs.Prelude.{ℕ, List, Option};
 ghost use Rattle.exceptions_core.specs.declared.class.ExcClass.{ExcClass};
 ghost use Rattle.exceptions_core.specs.declared.error.FaultKind.{FaultKind};
+ghost use Rattle.flow_base.specs.declared.numbers.ObjRef.{ObjRef};
 ghost use Rattle.flow_base.specs.declared.numbers.Sym.{Sym};
 ghost use Rattle.heap_objects.specs.declared.value.Value.{Value};
 ghost use Rattle.interp_machine.specs.Later.{IsLater};
@@ -35,12 +36,14 @@ pub fn added_law()
     ensures subscript { (a i : Value) (m : Machine) → IsLater m (subscripts.subscript a i m).1 }
     ensures store_item { (a i v : Value) (m : Machine) → IsLater m (subscripts.store_item a i v m).1 }
     ensures delete_item { (a i : Value) (m : Machine) → IsLater m (subscripts.delete_item a i m).1 }
+    ensures splice { (o : ObjRef) (from : ℕ) (tail : List Value) (m : Machine) → IsLater m (subscripts.splice o from tail m).1 }
     ensures lookup { (v : Value) (a : Sym) (m : Machine) → IsLater m (lookups.lookup v a m).1 }
     ensures walk { (v : Value) (m : Machine) → IsLater m (walks.walk v m).1 }
     ensures next { (w : Walker) (m : Machine) → IsLater m (walks.next w m).1 }
     ensures collect { (w : Walker) (m : Machine) → IsLater m (walks.collect w m).1 }
     ensures make_list { (items : List Value) (m : Machine) → IsLater m (making.make_list items m).1 }
     ensures make_tuple { (parts : List Value) (m : Machine) → IsLater m (making.make_tuple parts m).1 }
+    ensures tuple { (parts : List Value) (m : Machine) → IsLater m (making.tuple parts m).1 }
     ensures make_text { (t : List ℕ) (m : Machine) → IsLater m (making.make_text t m).1 }
     ensures make_dict { (keys values : List Value) (m : Machine) → IsLater m (making.make_dict keys values m).1 }
     ensures error_of { (kind : FaultKind) (name : List ℕ) (m : Machine) → IsLater m (meaning.error_of kind name m).1 }

@@ -33,7 +33,13 @@ fn attributes(rt: HostRuntime) -> Result<(), Fail> {
         ¦ attribute 'a 'index → AttributeError(\"no attribute 'index'\") A 0
         ¦ attribute { } 'count → AttributeError(\"no attribute 'count'\") A 0
         ¦ attribute [ ] 'get → AttributeError(\"no attribute 'get'\") A 0
-        ¦ attribute ( ) 'append → AttributeError(\"no attribute 'append'\") A 0";
+        ¦ attribute ( ) 'append → AttributeError(\"no attribute 'append'\") A 0
+        ¦ attribute holder 'f → <method lambda> bb 0 ¦ attribute holder 'm → <method append> bb 0
+        ¦ attribute holder 'g → <built-in len> bb 0
+        ¦ attribute class-below-error 'x → AttributeError(\"no attribute 'x'\") bA 0
+        ¦ attribute class-below-error 'args → AttributeError(\"no attribute 'args'\") bA 0
+        ¦ attribute @KeyError 'args → AttributeError(\"no attribute 'args'\") A 0
+        ¦ attribute error-without-args 'args → AttributeError(\"no attribute 'args'\") bA 0";
     rows(&rt, rt.alloc(), table)?;
     Ok(())
 }

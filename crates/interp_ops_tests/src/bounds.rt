@@ -33,7 +33,10 @@ fn deepest(rt: HostRuntime) -> Result<(), Fail> {
         ¦ repr { 1 10 } → RecursionError('too deep') ecA 1 ¦ repr ValueError( ) → RecursionError('too deep') bA 0
         ¦ str 'abc → abc - 3 ¦ str ( 1 ) → RecursionError('too deep') A 1 ¦ str ValueError( ) → b 0
         ¦ str ValueError( 'a ) → RecursionError('too deep') bA 0
-        ¦ str ValueError( 'a 'b ) → RecursionError('too deep') bA 0";
+        ¦ str ValueError( 'a 'b ) → RecursionError('too deep') bA 0 ¦ str [ 1 ] → RecursionError('too deep') cA 1
+        ¦ str KeyError( 'a ) → RecursionError('too deep') bA 0 ¦ repr [ ] → [] c 0 ¦ repr { } → {} e 0 ¦ repr ( ) → () - 0
+        ¦ < [ 1 ] [ 2 ] → RecursionError('too deep') eeccA 1
+        ¦ == { 1 10 } { 1 10 } → RecursionError('too deep') eedccA 1";
     rows_from(&rt, rt.alloc(), start, table)?;
     Ok(())
 }
@@ -48,7 +51,23 @@ fn one_below_deepest(rt: HostRuntime) -> Result<(), Fail> {
     let table =
         "== ( 1 ) ( 2 ) → False - 1 ¦ == ( ( 1 ) ) ( ( 1 ) ) → RecursionError('too deep') A 2 ¦ repr [ 1 ] → [1] cc 2
         ¦ repr ValueError( ) → ValueError() b 0 ¦ repr ValueError( 1 ) → RecursionError('too deep') bA 1
-        ¦ str ValueError( 'a ) → a b 1 ¦ str ValueError( 'a 'b ) → RecursionError('too deep') bA 1";
+        ¦ str ValueError( 'a ) → a b 1 ¦ str ValueError( 'a 'b ) → RecursionError('too deep') bA 1
+        ¦ repr ( ( 1 ) ) → RecursionError('too deep') A 2 ¦ repr { 1 10 } → {1: 10} ec 4 ¦ str KeyError( 'a ) → 'a' b 3
+        ¦ < ( ( 1 ) ) ( ( 2 ) ) → RecursionError('too deep') A 2 ¦ repr [ [ ] ] → [[]] ccc 1";
+    rows_from(&rt, rt.alloc(), start, table)?;
+    Ok(())
+}
+
+#[test]
+fn two_below_deepest(rt: HostRuntime) -> Result<(), Fail> {
+    let start = Start {
+        steps: 10000,
+        depth: 1498,
+        in_full: false,
+    };
+    let table = "repr ( ( 1 ) ) → ((1,),) - 3 ¦ repr ValueError( 1 ) → ValueError(1) b 2
+        ¦ str ValueError( 'a 'b ) → ('a', 'b') b 8 ¦ < ( ( 1 ) ) ( ( 2 ) ) → True - 3
+        ¦ == ( ( 1 ) ) ( ( 1 ) ) → True - 2 ¦ repr ( ( ( 1 ) ) ) → RecursionError('too deep') A 3";
     rows_from(&rt, rt.alloc(), start, table)?;
     Ok(())
 }
@@ -120,7 +139,8 @@ fn objects_in_themselves(rt: HostRuntime) -> Result<(), Fail> {
         ¦ == list-in-itself dup → True - 0 ¦ < list-in-itself dup → False eecc 1 ¦ <= list-in-itself dup → True eecc 1
         ¦ in list-in-itself dup → True c 1 ¦ truth list-in-itself → True e 0 ¦ at list-in-itself 0 → [[...]] c 0
         ¦ + list-in-itself dup → [[[...]], [[...]]] ccccIIS 4 ¦ * list-in-itself 2 → [[[...]], [[...]]] ccIIS 3
-        ¦ store list-in-itself 0 5 → [5] jI 0 ¦ delete list-in-itself 0 → [] ecIS 1";
+        ¦ store list-in-itself 0 5 → [5] jI 0 ¦ delete list-in-itself 0 → [] ecIS 1
+        ¦ str error-of-itself → RecursionError('too deep') 1502 0";
     rows(&rt, rt.alloc(), table)?;
     Ok(())
 }

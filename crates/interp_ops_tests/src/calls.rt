@@ -4,7 +4,7 @@ use flow_base::{NoMemory, ObjRef, PyText, Shared};
 use heap_objects::{Value, Values};
 use interp_ops::{
     BinaryOp, Machine, Stop, binary, collect, contains, delete_item, equal, identical, less,
-    less_or_equal, lookup, make_dict, make_list, make_text, make_tuple, negate, plus, show,
+    less_or_equal, lookup, make_dict, make_list, make_text, make_tuple, negate, next, plus, show,
     sorts_together, splice, store_item, subscript, to_str, truth, walk,
 };
 
@@ -95,6 +95,7 @@ fn compared(m: &mut Machine, op: &str, x: &Value, y: &Value, z: &Value) -> Resul
         "in" => truth_value(contains(m, x, y)),
         "is" => Ok(Value::Truth(identical(x, y))),
         "sorts" => sorts(m, x, y),
+        "sorts-all" => Ok(Value::Truth(sorts_together(parts_of(x)?.as_slice()))),
         _ => single(m, op, x, y, z),
     }
 }
@@ -140,6 +141,9 @@ fn items(m: &mut Machine, op: &str, x: &Value, y: &Value, z: &Value) -> Result<V
         "store" => stored(m, x, y, z),
         "delete" => changed(delete_item(m, x, y), x),
         "splice" => spliced(m, x, y, z),
+        "put-again" => put_again(m, x, y, z),
+        "walked-on" => walked_on(m, x, y, z),
+        "str-of-division" => str_of_division(m, x, y),
         _ => made(m, op, x, y, z),
     }
 }
@@ -154,6 +158,38 @@ fn spliced(m: &mut Machine, x: &Value, y: &Value, z: &Value) -> Result<Value, St
     let from = small(y)?;
     let tail = parts_of(z)?;
     changed(splice(m, o, from, tail), x)
+}
+
+// An item is deleted and stored.
+fn put_again(m: &mut Machine, x: &Value, y: &Value, z: &Value) -> Result<Value, Stop> {
+    delete_item(m, x, y)?;
+    stored(m, x, y, z)
+}
+
+// The parts behind the first, where the list is changed behind that one.
+fn walked_on(m: &mut Machine, x: &Value, y: &Value, z: &Value) -> Result<Value, Stop> {
+    let walker = walk(m, x)?;
+    let (_first, rest) = next(m, walker)?;
+    let o = object(x)?;
+    let from = small(y)?;
+    let tail = parts_of(z)?;
+    m.list_splice(o, from, tail)?;
+    let parts = collect(m, rest)?;
+    match Value::tuple(parts) {
+        Some(t) => Ok(t),
+        None => Err(Stop::NoMemory),
+    }
+}
+
+// The text of the error that a division raises.
+fn str_of_division(m: &mut Machine, x: &Value, y: &Value) -> Result<Value, Stop> {
+    match binary(m, BinaryOp::FloorDiv, x, y) {
+        Err(Stop::Raised(e)) => {
+            let t = to_str(m, &e)?;
+            Ok(Value::Text(t))
+        }
+        given => given,
+    }
 }
 
 fn made(m: &mut Machine, op: &str, x: &Value, y: &Value, z: &Value) -> Result<Value, Stop> {

@@ -27,6 +27,22 @@ fn equal_values(rt: HostRuntime) -> Result<(), Fail> {
 }
 
 #[test]
+fn equal_functions(rt: HostRuntime) -> Result<(), Fail> {
+    let table =
+        "== function dup → True - 0 ¦ == function function → False - 0 ¦ == class dup → True - 0
+        ¦ == class class → False - 0 ¦ == bound:1:3 bound:1:3 lambda instance → True - 0
+        ¦ == bound:1:3 bound:1:5 lambda instance instance → False - 0
+        ¦ == bound:1:3 bound:4:3 lambda instance lambda → False - 0 ¦ is bound:1:3 bound:1:3 lambda instance → True - 0
+        ¦ is bound:1:3 bound:1:5 lambda instance instance → False - 0
+        ¦ == count-of( ( 1 ) ) count-of( ( 1 ) ) → True - 0 ¦ == count-of( ( 1 ) ) count-of( ( True ) ) → False - 0
+        ¦ is count-of( ( 1 ) ) count-of( ( True ) ) → False - 0 ¦ == count-of( [ 1 ] ) count-of( [ 1 ] ) → False - 0
+        ¦ == count-of( [ 1 ] ) dup → True - 0 ¦ == count-of( 'a ) text-method → False - 0
+        ¦ in count-of( ( True ) ) [ count-of( ( 1 ) ) ] → False cc 1";
+    rows(&rt, rt.alloc(), table)?;
+    Ok(())
+}
+
+#[test]
 fn orders(rt: HostRuntime) -> Result<(), Fail> {
     let table =
         "< -2 7 → True - 0 ¦ < True 1 → False - 0 ¦ < 'abc 'abd → True - 0 ¦ < 'ab 'abc → True - 0
@@ -44,7 +60,9 @@ fn orders(rt: HostRuntime) -> Result<(), Fail> {
         ¦ <= None None → TypeError('wrong kind') A 0 ¦ <= 5 'a → TypeError('wrong kind') A 0
         ¦ <= [ 1 ] ( 1 ) → TypeError('wrong kind') A 0 ¦ < range:0:1:1 range:0:2:1 → TypeError('wrong kind') A 0
         ¦ < @len @len → TypeError('wrong kind') A 0 ¦ < instance instance → TypeError('wrong kind') A 0
-        ¦ < method method → TypeError('wrong kind') A 0 ¦ < ( 1 'a ) ( 1 2 ) → TypeError('wrong kind') A 2";
+        ¦ < method method → TypeError('wrong kind') A 0 ¦ < ( 1 'a ) ( 1 2 ) → TypeError('wrong kind') A 2
+        ¦ <= 'a 'a → True - 0 ¦ <= 'a 'ab → True - 0 ¦ <= ( ) ( ) → True - 0 ¦ <= [ ] [ ] → True ee 0
+        ¦ < 'a 'a → False - 0 ¦ < ( ) ( ) → False - 0";
     rows(&rt, rt.alloc(), table)?;
     Ok(())
 }
@@ -155,7 +173,17 @@ fn changes(rt: HostRuntime) -> Result<(), Fail> {
         ¦ store 'abc 0 99 → TypeError('wrong kind') A 0 ¦ store None 0 99 → TypeError('wrong kind') A 0
         ¦ store range:0:3:1 0 99 → TypeError('wrong kind') A 0 ¦ store instance 0 99 → TypeError('wrong kind') A 0
         ¦ delete ( 1 ) 0 → TypeError('wrong kind') A 0 ¦ delete None 0 → TypeError('wrong kind') A 0
-        ¦ delete range:0:2:1 0 → TypeError('wrong kind') A 0";
+        ¦ delete range:0:2:1 0 → TypeError('wrong kind') A 0 ¦ store 5 0 99 → TypeError('wrong kind') A 0
+        ¦ store True 0 99 → TypeError('wrong kind') A 0 ¦ store @len 0 99 → TypeError('wrong kind') A 0
+        ¦ store method 0 99 → TypeError('wrong kind') A 0 ¦ store class 0 99 → TypeError('wrong kind') A 0
+        ¦ delete 5 0 → TypeError('wrong kind') A 0 ¦ delete @len 0 → TypeError('wrong kind') A 0
+        ¦ delete instance 0 → TypeError('wrong kind') A 0 ¦ delete class 0 → TypeError('wrong kind') A 0
+        ¦ delete [ 1 ] 170141183460469231731687303715884105727 → IndexError('index out of range') eA 0
+        ¦ delete [ 1 ] -170141183460469231731687303715884105728 → IndexError('index out of range') eA 0
+        ¦ store { } ( [ ] ) 1 → TypeError('wrong kind') A 0 ¦ delete { 1 2 } ( [ ] ) → TypeError('wrong kind') A 0
+        ¦ put-again { 1 10 2 20 } 1 99 → {2: 20, 1: 99} djIPSijIPS 0
+        ¦ put-again { 1 10 2 20 } True 99 → {2: 20, True: 99} djIPSijIPS 0
+        ¦ put-again { 1 10 2 20 } 2 99 → {1: 10, 2: 99} djIPSijIPS 0";
     rows(&rt, rt.alloc(), table)?;
     Ok(())
 }

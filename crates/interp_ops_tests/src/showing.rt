@@ -42,7 +42,13 @@ fn objects(rt: HostRuntime) -> Result<(), Fail> {
         ¦ str error-by-number → b 0 ¦ repr error-without-args → ValueError() b 0 ¦ str error-without-args → b 0
         ¦ str ValueError( 5 ) → 5 b 1 ¦ str ValueError( 'ab ) → ab b 2 ¦ str ValueError( ValueError( 'a ) ) → a bb 1
         ¦ str KeyError( KeyError( 'x ) ) → KeyError('x') bb 4 ¦ str KeyError( 'a 'b ) → ('a', 'b') b 8
-        ¦ str Exception( 'a 'b ) → ('a', 'b') b 8 ¦ str error-in-itself → [ValueError([...])] bcbc 7";
+        ¦ str Exception( 'a 'b ) → ('a', 'b') b 8 ¦ str error-in-itself → [ValueError([...])] bcbc 7
+        ¦ repr function → <function f> - 12 ¦ repr bound:1:3 function instance → <method f> - 10
+        ¦ repr list-of-dict → [{1: [...]}] cecc 8 ¦ repr tuple-in-list → ([([...],)],) cc 8
+        ¦ repr error-of-itself → ValueError(<ValueError object>) b 20 ¦ str KeyError( ) → b 0
+        ¦ str ValueError( [ 1 ] ) → [1] bcc 2 ¦ str KeyError( [ 1 ] ) → [1] bcc 2
+        ¦ repr class-below-error → <class 'E'> - 11 ¦ repr count-of( 'a ) → <method count> - 14
+        ¦ str-of-division 1 0 → 'division by zero' Ab 16";
     rows(&rt, rt.alloc(), table)?;
     Ok(())
 }

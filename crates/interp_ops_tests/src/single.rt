@@ -23,7 +23,9 @@ fn one_value(rt: HostRuntime) -> Result<(), Fail> {
         ¦ plus ( 1 ) → TypeError('wrong kind') A 0 ¦ parts None → TypeError('wrong kind') A 0
         ¦ parts instance → TypeError('wrong kind') A 0 ¦ parts class → TypeError('wrong kind') A 0
         ¦ parts @len → TypeError('wrong kind') A 0 ¦ parts method → TypeError('wrong kind') A 0
-        ¦ parts lambda → TypeError('wrong kind') A 0";
+        ¦ parts lambda → TypeError('wrong kind') A 0 ¦ walked-on [ 1 2 3 ] 1 ( 7 8 ) → (7, 8) cIIccc 3
+        ¦ walked-on [ 1 2 3 ] 1 ( ) → () cIISc 1 ¦ walked-on [ 1 ] 1 ( 2 ) → (2,) cIScc 2
+        ¦ walked-on [ 1 2 ] 0 ( ) → () cIISc 1 ¦ walked-on [ ] 0 ( 5 ) → () cISc 0";
     rows(&rt, rt.alloc(), table)?;
     Ok(())
 }
@@ -42,7 +44,10 @@ fn identities(rt: HostRuntime) -> Result<(), Fail> {
         ¦ is ( 1 ) ( True ) → False - 0 ¦ is @len @len → True - 0 ¦ is @len @int → False - 0 ¦ is bound dup → True - 0
         ¦ is text-method text-method → True - 0 ¦ is method method → False - 0 ¦ is range:0:4:2 range:0:4:2 → True - 0
         ¦ sorts ( 1 'a ) ( 2 'b ) → True - 0 ¦ sorts ( 1 'a ) ( 'b 2 ) → False - 0
-        ¦ sorts ( ( 1 ) ) ( ( True ) ) → True - 0 ¦ sorts ( None ) ( None ) → False - 0 ¦ sorts { } { } → False - 0";
+        ¦ sorts ( ( 1 ) ) ( ( True ) ) → True - 0 ¦ sorts ( None ) ( None ) → False - 0 ¦ sorts { } { } → False - 0
+        ¦ sorts-all ( ) → True - 0 ¦ sorts-all ( 1 ) → True - 0 ¦ sorts-all ( None ) → False - 0
+        ¦ sorts-all ( [ ] ) → False - 0 ¦ sorts-all ( 1 True 3 ) → True - 0 ¦ sorts-all ( 1 2 'a ) → False - 0
+        ¦ sorts-all ( ( ) ( ) ) → True - 0 ¦ sorts-all ( ( ) ( 1 ) ) → False - 0";
     rows(&rt, rt.alloc(), table)?;
     Ok(())
 }

@@ -1,4 +1,5 @@
 // Values by a name.
+use crate::calls::object;
 use crate::words::{list, tuple};
 use exceptions_core::ExcClass;
 use flow_base::{CodeRef, Held, Loc, NoMemory, ObjRef, PyText, RunNo, Shared, Sym};
@@ -18,17 +19,23 @@ pub(crate) fn error(m: &mut Machine, class: Value, args: Value) -> Result<Value,
 
 // `class E(KeyError)`, `E(..)`
 pub(crate) fn below_key_error(m: &mut Machine, args: Value) -> Result<Value, NoMemory> {
+    let class = class_below_error(m)?;
+    error(m, Value::Obj(class), args)
+}
+
+// `class E(KeyError)`
+fn class_below_error(m: &mut Machine) -> Result<ObjRef, NoMemory> {
     let name = symbol(m, "E")?;
     let base = Value::Builtin(class_symbol(ExcClass::KeyError));
-    let class = m.heap.new_class(name, Some(base))?;
-    error(m, Value::Obj(class), args)
+    m.heap.new_class(name, Some(base))
 }
 
 pub(crate) fn thing(m: &mut Machine, word: &str) -> Result<Value, NoMemory> {
     match word {
         "class" => Ok(Value::Obj(class(m)?)),
         "instance" => Ok(Value::Obj(instance(m)?)),
-        "lambda" => Ok(Value::Obj(lambda(m)?)),
+        "lambda" => Ok(Value::Obj(function(m, LAMBDA)?)),
+        "function" => Ok(Value::Obj(named_function(m)?)),
         "bound" => bound(m),
         "method" => method(m),
         "text-method" => text_method(m),
@@ -46,6 +53,11 @@ fn knot(m: &mut Machine, word: &str) -> Result<Value, NoMemory> {
         "error-in-itself" => error_in_itself(m),
         "below" => below(m),
         "class-below" => Ok(Value::Obj(class_below(m)?)),
+        "holder" => holder(m),
+        "class-below-error" => Ok(Value::Obj(class_below_error(m)?)),
+        "list-of-dict" => list_of_dict(m),
+        "tuple-in-list" => tuple_in_list(m),
+        "error-of-itself" => error_of_itself(m),
         "error-by-number" => error(m, value_error(), Value::Int(1)),
         "error-without-args" => Ok(Value::Obj(m.heap.new_instance(value_error())?)),
         // the global frame, and no object
@@ -71,18 +83,24 @@ fn instance(m: &mut Machine) -> Result<ObjRef, NoMemory> {
     m.heap.new_instance(Value::Obj(c))
 }
 
-fn lambda(m: &mut Machine) -> Result<ObjRef, NoMemory> {
+// `def f`
+fn named_function(m: &mut Machine) -> Result<ObjRef, NoMemory> {
+    let name = symbol(m, "f")?;
+    function(m, name)
+}
+
+fn function(m: &mut Machine, name: Sym) -> Result<ObjRef, NoMemory> {
     let code = CodeRef {
         run: RunNo(1),
         node: 1,
     };
     let defaults = Shared::from_vec(m.alloc, Vec::new(m.alloc))?;
-    m.heap.new_function(LAMBDA, code, defaults, ObjRef(0))
+    m.heap.new_function(name, code, defaults, ObjRef(0))
 }
 
 // A method of an instance of C, by a lambda.
 fn bound(m: &mut Machine) -> Result<Value, NoMemory> {
-    let f = lambda(m)?;
+    let f = function(m, LAMBDA)?;
     let o = instance(m)?;
     Ok(Value::Bound(f, o))
 }
@@ -160,6 +178,48 @@ fn error_in_itself(m: &mut Machine) -> Result<Value, NoMemory> {
     Ok(e)
 }
 
+// `xs = [d]`, `d = {1: xs}`
+fn list_of_dict(m: &mut Machine) -> Result<Value, NoMemory> {
+    let d = object(&dict_in_itself(m)?)?;
+    let o = list_of(m, Value::Obj(d))?;
+    m.heap.dict_put(d, &Value::Int(1), Value::Obj(o))?;
+    Ok(Value::Obj(o))
+}
+
+// `t = (xs,)`, `xs = [t]`
+fn tuple_in_list(m: &mut Machine) -> Result<Value, NoMemory> {
+    let o = list_of(m, Value::Nil)?;
+    let mut parts = Vec::new(m.alloc);
+    parts.push(Value::Obj(o))?;
+    let t = tuple(m.alloc, parts)?;
+    m.heap.list_put(o, 0, t.copy()?)?;
+    Ok(t)
+}
+
+// `e.args = (e,)`
+fn error_of_itself(m: &mut Machine) -> Result<Value, NoMemory> {
+    let e = m.heap.new_instance(value_error())?;
+    let mut args = Vec::new(m.alloc);
+    args.push(Value::Obj(e))?;
+    let args = tuple(m.alloc, args)?;
+    m.heap.store(&Loc::Attr(e, ARGS), Some(args))?;
+    Ok(Value::Obj(e))
+}
+
+// ---- `class H: f = ` a method of an instance, `m = [].append`, `g = len`, and `H()`
+
+fn holder(m: &mut Machine) -> Result<Value, NoMemory> {
+    let name = symbol(m, "H")?;
+    let class = m.heap.new_class(name, None)?;
+    let f = bound(m)?;
+    give(m, class, "f", f)?;
+    let append = method(m)?;
+    give(m, class, "m", append)?;
+    let len = symbol(m, "len")?;
+    give(m, class, "g", Value::Builtin(len))?;
+    Ok(Value::Obj(m.heap.new_instance(Value::Obj(class))?))
+}
+
 // ---- `class B: g = 1` and `B.k = B`, `class C(B): f = ` a lambda, `o = C()`, `o.x = 2`, `o.h = ` a lambda
 
 fn give(m: &mut Machine, o: ObjRef, name: &str, v: Value) -> Result<(), NoMemory> {
@@ -174,7 +234,7 @@ fn class_below(m: &mut Machine) -> Result<ObjRef, NoMemory> {
     give(m, base, "k", Value::Obj(base))?;
     let name = symbol(m, "C")?;
     let class = m.heap.new_class(name, Some(Value::Obj(base)))?;
-    let f = lambda(m)?;
+    let f = function(m, LAMBDA)?;
     give(m, class, "f", Value::Obj(f))?;
     Ok(class)
 }
@@ -183,7 +243,7 @@ fn below(m: &mut Machine) -> Result<Value, NoMemory> {
     let class = class_below(m)?;
     let o = m.heap.new_instance(Value::Obj(class))?;
     give(m, o, "x", Value::Int(2))?;
-    let h = lambda(m)?;
+    let h = function(m, LAMBDA)?;
     give(m, o, "h", Value::Obj(h))?;
     Ok(Value::Obj(o))
 }

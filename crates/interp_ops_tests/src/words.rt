@@ -1,9 +1,9 @@
 // Values by words: `None`, `True`, `False`, `5`, `'abc` for a text, `range:0:4:2`, `@len` for a built-in, `[ 1 2 ]`, `( 1 2 )`,
-// `{ 1 10 2 20 }`, `ValueError( 1 )` for an exception with its arguments, `dup` for the value before it once more, and the names of
-// `things`.
+// `{ 1 10 2 20 }`, `ValueError( 1 )` for an exception with its arguments, `count-of( 'a )` for the method `count` of a value, `bound:1:3`
+// for the method of object 3 by function 1, `dup` for the value before it once more, and the names of `things`.
 use crate::things::{below_key_error, error, symbol, thing};
 use exceptions_core::ExcClass;
-use flow_base::{NoMemory, PyText, Shared};
+use flow_base::{Held, NoMemory, ObjRef, PyText, Shared};
 use heap_objects::{Value, Values};
 use interp_ops::{Machine, class_symbol};
 use std::alloc::Global;
@@ -17,6 +17,8 @@ enum Bracket {
     Error(ExcClass),
     // one of a class below KeyError
     BelowKeyError,
+    // the method `count` of a value
+    Count,
 }
 
 // A bracket that is open, and how many values stand before it.
@@ -63,6 +65,7 @@ fn opened(word: &str) -> Option<Bracket> {
         "ValueError(" => Some(Bracket::Error(ExcClass::ValueError)),
         "KeyError(" => Some(Bracket::Error(ExcClass::KeyError)),
         "E(" => Some(Bracket::BelowKeyError),
+        "count-of(" => Some(Bracket::Count),
         _ => None,
     }
 }
@@ -109,7 +112,14 @@ fn bracketed(m: &mut Machine, bracket: Bracket, parts: Vec<Value>) -> Result<Val
             let args = tuple(m.alloc, parts)?;
             below_key_error(m, args)
         }
+        Bracket::Count => count_of(m, parts.as_slice()),
     }
+}
+
+fn count_of(m: &mut Machine, parts: &[Value]) -> Result<Value, NoMemory> {
+    let receiver = last(parts)?;
+    let name = symbol(m, "count")?;
+    Ok(Value::Method(name, Held::new(m.alloc, receiver)?))
 }
 
 pub(crate) fn list(m: &mut Machine, parts: Vec<Value>) -> Result<Value, NoMemory> {
@@ -151,6 +161,9 @@ fn value_of(m: &mut Machine, word: &str) -> Result<Value, NoMemory> {
     if let Some(numbers) = word.strip_prefix("range:") {
         return range(m.alloc, numbers);
     }
+    if let Some(numbers) = word.strip_prefix("bound:") {
+        return bound(numbers);
+    }
     match word.parse::<i128>() {
         Ok(n) => Ok(Value::Int(n)),
         Err(_) => constant(m, word),
@@ -168,6 +181,20 @@ fn range(a: Global, words: &str) -> Result<Value, NoMemory> {
     match all.as_slice() {
         [start, stop, step] => Ok(Value::Range(*start, *stop, *step)),
         _ => Err(NoMemory),
+    }
+}
+
+fn bound(words: &str) -> Result<Value, NoMemory> {
+    match words.split_once(':') {
+        Some((f, o)) => Ok(Value::Bound(numbered(f)?, numbered(o)?)),
+        None => Err(NoMemory),
+    }
+}
+
+fn numbered(word: &str) -> Result<ObjRef, NoMemory> {
+    match word.parse::<u64>() {
+        Ok(n) => Ok(ObjRef(n)),
+        Err(_) => Err(NoMemory),
     }
 }
 

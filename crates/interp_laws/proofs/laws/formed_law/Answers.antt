@@ -1,8 +1,8 @@
 use Rattle.interp_laws.specs.Formed.{Allowed, AllowedAll, AllowedObject, AllowedStep, AllowedWalk, Any, IsFormed}
 use Rattle.interp_laws.proofs.Kept.{contains_kept, equal_kept, less_kept, less_or_equal_kept, truth_kept}
 use Rattle.interp_laws.proofs.KeptTexts.{show_kept, to_str_kept}
-use Rattle.interp_laws.proofs.Lawful.{collect_lawful, ends, ends_kept, error_of_lawful, error_with_lawful, formed_reads, make_dict_lawful, make_list_lawful, make_text_lawful, make_tuple_lawful, next_lawful, walk_lawful}
-use Rattle.interp_laws.proofs.LawfulOps.{binary_lawful, delete_item_lawful, lookup_lawful, negate_lawful, plus_lawful, store_item_lawful, subscript_lawful}
+use Rattle.interp_laws.proofs.Lawful.{collect_lawful, ends, ends_kept, error_of_lawful, error_with_lawful, formed_reads, make_dict_lawful, make_list_lawful, make_text_lawful, make_tuple_lawful, next_lawful, tuple_lawful, walk_lawful}
+use Rattle.interp_laws.proofs.LawfulOps.{binary_lawful, delete_item_lawful, lookup_lawful, negate_lawful, plus_lawful, splice_lawful, store_item_lawful, subscript_lawful}
 use Rattle.interp_laws.proofs.laws.formed_law.Goals as goal
 
 pub returns-clause-truth : goal.returns-clause-truth
@@ -44,6 +44,9 @@ returns-clause-store_item c = λ codes a i v m steady formed g h. ends codes ste
 pub returns-clause-delete_item : goal.returns-clause-delete_item
 returns-clause-delete_item c = λ codes a i m steady formed g. ends codes steady Any _ m (delete_item_lawful codes steady m.heap a i g) formed
 
+pub returns-clause-splice : goal.returns-clause-splice
+returns-clause-splice c = λ codes o from tail m steady formed g. ends codes steady Any _ m (splice_lawful codes steady m.heap o from tail g) formed
+
 pub returns-clause-lookup : goal.returns-clause-lookup
 returns-clause-lookup c = λ codes v a m steady formed g. ends codes steady (Allowed codes) _ m (lookup_lawful codes steady m.heap v a g) formed
 
@@ -61,6 +64,9 @@ returns-clause-make_list c = λ codes items m steady formed g. ends codes steady
 
 pub returns-clause-make_tuple : goal.returns-clause-make_tuple
 returns-clause-make_tuple c = λ codes parts m steady formed g. ends codes steady (Allowed codes) _ m (make_tuple_lawful codes steady m.heap parts g) formed
+
+pub returns-clause-tuple : goal.returns-clause-tuple
+returns-clause-tuple c = λ codes parts m steady formed g. ends codes steady (Allowed codes) _ m (tuple_lawful codes steady m.heap parts g) formed
 
 pub returns-clause-make_text : goal.returns-clause-make_text
 returns-clause-make_text c = λ codes t m steady formed. ends codes steady (Allowed codes) _ m (make_text_lawful codes steady m.heap t) formed

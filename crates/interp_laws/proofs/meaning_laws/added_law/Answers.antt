@@ -1,5 +1,5 @@
-use Rattle.interp_laws.proofs.Kept.{binary_kept, collect_kept, contains_kept, equal_kept, less_kept, less_or_equal_kept, lookup_kept, make_dict_kept, make_list_kept, make_text_kept, make_tuple_kept, negate_kept, next_kept, plus_kept, truth_kept, walk_kept}
-use Rattle.interp_laws.proofs.KeptTexts.{delete_item_kept, show_kept, store_item_kept, subscript_kept, to_str_kept}
+use Rattle.interp_laws.proofs.Kept.{binary_kept, collect_kept, contains_kept, equal_kept, less_kept, less_or_equal_kept, lookup_kept, make_dict_kept, make_list_kept, make_text_kept, make_tuple_kept, negate_kept, next_kept, plus_kept, truth_kept, tuple_kept, walk_kept}
+use Rattle.interp_laws.proofs.KeptTexts.{delete_item_kept, show_kept, splice_kept, store_item_kept, subscript_kept, to_str_kept}
 use Rattle.interp_laws.proofs.LaterLaws.{Any, added, later_reads, later_writes}
 use Rattle.interp_laws.proofs.meaning_laws.added_law.Goals as goal
 use Rattle.interp_machine.specs.Later.{IsLater}
@@ -43,6 +43,9 @@ returns-clause-store_item c = λ a i v. added _ (λ l. store_item_kept (IsLater 
 pub returns-clause-delete_item : goal.returns-clause-delete_item
 returns-clause-delete_item c = λ a i. added _ (λ l. delete_item_kept (IsLater l) Any (later_reads l) (later_writes l) a i)
 
+pub returns-clause-splice : goal.returns-clause-splice
+returns-clause-splice c = λ o from tail. added _ (λ l. splice_kept (IsLater l) Any (later_reads l) (later_writes l) o from tail)
+
 pub returns-clause-lookup : goal.returns-clause-lookup
 returns-clause-lookup c = λ v a. added _ (λ l. lookup_kept (IsLater l) Any (later_reads l) v a)
 
@@ -60,6 +63,9 @@ returns-clause-make_list c = λ items. added _ (λ l. make_list_kept (IsLater l)
 
 pub returns-clause-make_tuple : goal.returns-clause-make_tuple
 returns-clause-make_tuple c = λ parts. added _ (λ l. make_tuple_kept (IsLater l) Any (later_reads l) parts)
+
+pub returns-clause-tuple : goal.returns-clause-tuple
+returns-clause-tuple c = λ parts. added _ (λ l. tuple_kept (IsLater l) Any (later_reads l) parts)
 
 pub returns-clause-make_text : goal.returns-clause-make_text
 returns-clause-make_text c = λ t. added _ (λ l. make_text_kept (IsLater l) Any (later_reads l) t)
