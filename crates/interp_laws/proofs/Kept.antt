@@ -34,7 +34,6 @@ use Rattle.interp_ops.specs.declared.products.Product.TheVariants as p
 use Rattle.interp_ops.specs.declared.operators.BinaryOp.{BinaryOp}
 use Rattle.interp_ops.specs.declared.operators.BinaryOp.TheVariants as binop
 use Rattle.interp_texts.specs.Shown as shown
-use Rattle.interp_texts.specs.Shown.{Shower, Arguments, Teller}
 use Rattle.py_scalars.specs.declared.numbers.NumFault.{NumFault}
 use Rattle.py_scalars.specs.declared.numbers.NumFault.TheVariants.{ZeroDiv, Range}
 

@@ -78,9 +78,6 @@ option_text None x e = absurd (none_some x e)
 option_text (Some c) x e = (c, same_some (point_value c) x e)
 
 module _ (codes : Codes) (steady : AreSteadyCodes codes) where
-  abbrev Good : State → Value → Type 0
-  Good s x = Allowed codes s x
-
   abbrev GoodIf : State → Option Value → Type 0
   GoodIf s x = IsAllowedIf (rules_of codes) s x
 

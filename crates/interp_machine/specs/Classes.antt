@@ -28,7 +28,7 @@ abbrev pub exception_above : State → ℕ → Option Value → Option ExcClass
 exception_above s zero x = None
 exception_above s (suc n) x = exception_in (exception_above s n) s x
 
--- the built-in exception class that a class is or is below, if it is below Exception; the bases of a class were made before it, so that
+-- the built-in exception class that a class is or is below, if it is Exception or below it; the bases of a class were made before it, so that
 -- there are fewer of them than objects
 abbrev pub exception_of : State → Value → Option ExcClass
 exception_of s class = exception_at (exception_above s (length s.nodes)) s (out-Value class)

@@ -1,4 +1,4 @@
--- The texts that every table of names begins with, and their symbols, which are so the same in every session.
+-- The texts that every table of names begins with, and their symbols, which are thus the same in every session.
 use Rattle.std.specs.Prelude.{◌==◌, ℕ, Bool, List, [], ◌∷◌, ◌++◌, codes, Option, Some, None, slice_get, if◌then◌else◌}
 use Rattle.std.specs.List.{list_any}
 use Rattle.exceptions_core.specs.declared.class.ExcClass.{ExcClass}
@@ -48,12 +48,6 @@ symbol n = record { 0 = n }
 
 abbrev pub args_symbol : Sym
 args_symbol = symbol 63
-
-abbrev pub init_symbol : Sym
-init_symbol = symbol 64
-
-abbrev pub lambda_symbol : Sym
-lambda_symbol = symbol 65
 
 -- ---- exception classes
 

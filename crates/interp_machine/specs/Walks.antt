@@ -89,7 +89,3 @@ gather (suc n) w done = next w >>= go_through (gather n) done
 
 unfoldable pub collect : Walker → M (List Value)
 collect w m = gather (suc m.left) w [] m
-
--- the parts of a value
-abbrev pub parts_of : Value → M (List Value)
-parts_of x = walk x >>= collect

@@ -25,7 +25,8 @@ pub enum Walker {
     Range(i128, i128, u128),
 }
 
-/// Begins the walk of a value, and raises TypeError where it has no parts. The shape of a dictionary is used.
+/// Begins the walk of a value, for no step, and raises TypeError where it has no parts. The shape of a dictionary is used. Takes memory; for
+/// want of it `Stop::NoMemory`.
 #[tactic(auto, unfolding(crate::specs::Walks::walk, crate::specs::Kinds::kind))]
 pub fn walk(m: &mut Machine, v: &Value) -> Result<Walker, Stop>
     ensures { Runs (spec.walk v.now m.old) result m.new }
@@ -52,6 +53,7 @@ pub fn walk(m: &mut Machine, v: &Value) -> Result<Walker, Stop>
 }
 
 /// The part that is next, if there is one, for a step, and the walk behind it. An item of a list is used, whether it is there or not.
+/// `Stop::Steps` where no step is left. Takes memory; for want of it `Stop::NoMemory`.
 #[tactic(auto, unfolding(crate::specs::Walks::next, crate::specs::Meaning::key_at))]
 pub fn next(m: &mut Machine, walker: Walker) -> Result<(Option<Value>, Walker), Stop>
     ensures { Runs (spec.next walker m.old) result m.new }
@@ -199,7 +201,7 @@ fn steps_in(from: i128, to: i128, step: u128) -> u128
     }
 }
 
-/// The parts that are left of a walk.
+/// The parts that are left of a walk. `Stop::Steps` where too few steps are left. Takes memory; for want of it `Stop::NoMemory`.
 #[tactic(auto, unfolding(crate::specs::Walks::collect, crate::specs::Walks::gather))]
 pub fn collect(m: &mut Machine, walker: Walker) -> Result<Values, Stop>
     ensures { Runs (spec.collect walker m.old) result m.new }

@@ -7,7 +7,7 @@ use Rattle.std.proofs.lemmas.Slice.Eq.{bytes_eq-Decides}
 use Rattle.flow_base.specs.declared.numbers.ObjRef.{ObjRef}
 use Rattle.flow_base.specs.declared.numbers.Sym.{Sym}
 use Rattle.heap_objects.specs.Tree as tree
-use Rattle.heap_objects.specs.Tree.{Tree, Trees, more, tree_of, tree_step, trees_of}
+use Rattle.heap_objects.specs.Tree.{Tree, more, tree_of, tree_step, trees_of}
 use Rattle.heap_objects.specs.declared.value.Value.{Value, out-Value, roll-Value}
 use Rattle.heap_objects.specs.declared.value.Value.TheFolds.{fold-roll-Value, ind-Value, map-Value}
 use Rattle.heap_objects.specs.declared.value.Value.TheViews.{roll-out-Value}

@@ -20,7 +20,7 @@ use Rattle.interp_machine.specs.declared.kinds.Kind.TheVariants as k
 
 -- ---- classes and the classes above them
 
--- the class that a value refers to, if it is a class object
+-- the object that a value refers to, if it refers to one
 abbrev pub class_ref : Value-F Value → Option ObjRef
 class_ref (v.Obj o) = Some o
 class_ref _ = None
@@ -70,7 +70,7 @@ module _ (a : Sym) where
   own_or_bound o class (Some x) = pure x
   own_or_bound o class None = find class >>= bind o
 
-  -- a built-in method, or an error where it would nest over the limit
+  -- a built-in method, or an error where there is none of this name, or where it would nest over the limit
   abbrev pub method : Value → Bool → M Value
   method receiver false = fault_named error.Attribute a
   method receiver true = if nat_le NESTING_LIMIT (kept_nesting receiver) then fault error.Depth else pure (roll-Value (v.Method a receiver))

@@ -1,4 +1,4 @@
--- New lists, tuples, texts and dictionaries. Their steps come before any event.
+-- New lists, tuples, texts and dictionaries. Their steps come before any event; `tuple` takes none.
 use Rattle.std.specs.Prelude.{ℕ, List, length, Bool, if◌then◌else◌, is_some}
 use Rattle.std.specs.List.{list_all}
 use Rattle.exceptions_core.specs.declared.error.FaultKind.TheVariants as error

@@ -30,7 +30,7 @@ number_at _ = None
 abbrev pub number_of : Value → Option ℤ
 number_of x = number_at (out-Value x)
 
--- the place that is so many before the last of a count, which is one before its end
+-- the place below a count that has so many places behind it, if there is one: with 0 behind it, it is the last
 abbrev pub before_end : ℕ → ℕ → Option ℕ
 before_end count i = if nat_lt i count then Some (count - suc i) else None
 

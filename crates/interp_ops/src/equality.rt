@@ -11,8 +11,9 @@ use interp_machine::{Machine, Pair, Stop, fault, item, part_at, range_size};
 
 /// Whether two values are equal (Python reference 6.10.1, "Value comparisons"): numbers by value, texts, None and built-ins by themselves,
 /// ranges as sequences, tuples, lists and dictionaries by their parts, for a step each; references to one object always, and bound methods
-/// of one function and receiver. The shapes and the items of lists and dictionaries are used. RecursionError where a part stands deeper than
-/// executions and evaluations may be open.
+/// of one function and receiver, and built-in methods of one name and identical receivers. The shapes and the items of lists and dictionaries
+/// are used. RecursionError where a part stands deeper than executions and evaluations may be open, `Stop::Steps` where too few steps are
+/// left. Takes memory; for want of it `Stop::NoMemory`.
 #[tactic(auto, unfolding(crate::specs::Equality::equal))]
 pub fn equal(m: &mut Machine, a: &Value, b: &Value) -> Result<bool, Stop>
     ensures { Runs (spec.equal a.now b.now m.old) result m.new }

@@ -11,7 +11,7 @@ use flow_base::{Held, Loc, NoMemory, ObjRef, Sym};
 use heap_objects::{NESTING_LIMIT, Object, Value};
 use interp_machine::{Kind, Machine, Stop, base_of, fault, fault_named, is_among};
 
-// The built-in methods of lists, dictionaries, texts and tuples.
+// The symbols of the built-in methods of lists, dictionaries, texts and tuples.
 const LIST_METHODS: [u64; 11] = [39, 40, 41, 42, 44, 47, 48, 52, 53, 55, 57];
 
 const DICT_METHODS: [u64; 9] = [40, 41, 46, 49, 51, 52, 56, 61, 62];

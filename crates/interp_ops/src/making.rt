@@ -9,7 +9,7 @@ use heap_objects::{Value, Values, key_of};
 use interp_machine::{Machine, Stop, fault};
 use std::alloc::Global;
 
-/// A new list of these items, for a step each.
+/// A new list of these items, for a step each; `Stop::Steps` where too few are left. Takes memory; for want of it `Stop::NoMemory`.
 #[tactic(auto, unfolding(crate::specs::Making::make_list))]
 pub fn make_list(m: &mut Machine, items: Values) -> Result<Value, Stop>
     ensures { Runs (spec.make_list items m.old) result m.new }
@@ -19,7 +19,8 @@ pub fn make_list(m: &mut Machine, items: Values) -> Result<Value, Stop>
     Ok(Value::Obj(o))
 }
 
-/// A tuple of these parts, for a step each; RecursionError where it would nest over the limit.
+/// A tuple of these parts, for a step each; `Stop::Steps` where too few are left, RecursionError where it would nest over the limit. Takes
+/// memory for the error; for want of it `Stop::NoMemory`.
 #[tactic(auto, unfolding(crate::specs::Making::make_tuple))]
 pub fn make_tuple(m: &mut Machine, parts: Values) -> Result<Value, Stop>
     ensures { Runs (spec.make_tuple parts m.old) result m.new }
@@ -28,7 +29,8 @@ pub fn make_tuple(m: &mut Machine, parts: Values) -> Result<Value, Stop>
     tuple(m, parts)
 }
 
-/// The tuple of these parts, or RecursionError where it would nest over the limit.
+/// The tuple of these parts, for no step, or RecursionError where it would nest over the limit. Takes memory for the error; for want of it
+/// `Stop::NoMemory`.
 pub fn tuple(m: &mut Machine, parts: Values) -> Result<Value, Stop>
     ensures { Runs (spec.tuple parts m.old) result m.new }
 {
@@ -38,7 +40,7 @@ pub fn tuple(m: &mut Machine, parts: Values) -> Result<Value, Stop>
     }
 }
 
-/// A text, for a step for each code point.
+/// A text, for a step for each code point; `Stop::Steps` where too few are left.
 #[tactic(auto, unfolding(crate::specs::Making::make_text))]
 pub fn make_text(m: &mut Machine, t: PyText) -> Result<Value, Stop>
     ensures { Runs (spec.make_text t m.old) result m.new }
@@ -47,7 +49,8 @@ pub fn make_text(m: &mut Machine, t: PyText) -> Result<Value, Stop>
     Ok(Value::Text(t))
 }
 
-/// A new dictionary of as many keys as values, for a step for each of them; TypeError where one of the keys has no key.
+/// A new dictionary of as many keys as values, for a step for each of them. TypeError where one of the keys has no key, and else `Stop::Steps`
+/// where too few are left. Takes memory; for want of it `Stop::NoMemory`.
 #[tactic(auto, unfolding(crate::specs::Making::make_dict))]
 pub fn make_dict(m: &mut Machine, keys: Values, values: Values) -> Result<Value, Stop>
     ensures { Runs (spec.make_dict keys values m.old) result m.new }

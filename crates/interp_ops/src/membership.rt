@@ -12,7 +12,9 @@ use heap_objects::{Value, key_of};
 use interp_machine::{Kind, Machine, Stop, Walker, fault, next, walk};
 use py_scalars::find;
 
-/// `v in c`
+/// `v in c` (Python reference 6.10.2, "Membership test operations"). TypeError where `c` has no parts, where it is a text and `v` is none, and
+/// where it is a dictionary and `v` has no key; RecursionError as in `equal`; `Stop::Steps` where too few steps are left. Takes memory; for
+/// want of it `Stop::NoMemory`.
 #[tactic(auto, unfolding(crate::specs::Operators::contains, interp_machine::specs::Kinds::kind))]
 pub fn contains(m: &mut Machine, v: &Value, c: &Value) -> Result<bool, Stop>
     ensures { Runs (spec.contains v.now c.now m.old) result m.new }

@@ -27,7 +27,9 @@ pub enum BinaryOp {
     Power,
 }
 
-/// The value of an operator of two operands.
+/// The value of an operator of two operands (Python reference 6.5 and 6.7). TypeError for other kinds of operands; ZeroDivisionError;
+/// ValueError for an exponent below 0; RecursionError where a tuple would nest over the limit; `Stop::Range` where a number is outside 128
+/// bits; `Stop::Steps` where too few steps are left. Takes memory; for want of it `Stop::NoMemory`.
 #[tactic(auto, unfolding(crate::specs::Operators::binary, interp_machine::specs::Kinds::pair, crate::specs::Operators::product))]
 pub fn binary(m: &mut Machine, op: BinaryOp, a: &Value, b: &Value) -> Result<Value, Stop>
     ensures { Runs (spec.binary op a.now b.now m.old) result m.new }
@@ -194,7 +196,8 @@ fn answered(m: &mut Machine, n: Result<i128, NumFault>) -> Result<Value, Stop>
     }
 }
 
-/// `-v`
+/// `-v`. TypeError where it is no number, `Stop::Range` where the negative is outside 128 bits. Takes memory for an error; for want of it
+/// `Stop::NoMemory`.
 #[tactic(auto, unfolding(crate::specs::Operators::negate, interp_machine::specs::Kinds::kind))]
 pub fn negate(m: &mut Machine, v: &Value) -> Result<Value, Stop>
     ensures { Runs (spec.negate v.now m.old) result m.new }
@@ -205,7 +208,7 @@ pub fn negate(m: &mut Machine, v: &Value) -> Result<Value, Stop>
     }
 }
 
-/// `+v`
+/// `+v`. TypeError where it is no number. Takes memory for an error; for want of it `Stop::NoMemory`.
 #[tactic(auto, unfolding(crate::specs::Operators::plus, interp_machine::specs::Kinds::kind))]
 pub fn plus(m: &mut Machine, v: &Value) -> Result<Value, Stop>
     ensures { Runs (spec.plus v.now m.old) result m.new }

@@ -11,7 +11,8 @@ use interp_machine::{Machine, Pair, Stop, fault};
 use std::cmp::Ordering;
 
 /// Whether a value comes before another: numbers by value, texts by code points, and tuples and lists by the first pair of parts that is not
-/// equal, a beginning before the whole. TypeError for other values.
+/// equal, a beginning before the whole. TypeError for other values, RecursionError where a part stands deeper than executions and evaluations
+/// may be open, `Stop::Steps` where too few steps are left. Takes memory; for want of it `Stop::NoMemory`.
 #[tactic(auto, unfolding(crate::specs::Orders::less))]
 pub fn less(m: &mut Machine, a: &Value, b: &Value) -> Result<bool, Stop>
     ensures { Runs (spec.less a.now b.now m.old) result m.new }
@@ -20,7 +21,8 @@ pub fn less(m: &mut Machine, a: &Value, b: &Value) -> Result<bool, Stop>
     less_with(m, levels, false, a, b)
 }
 
-/// Whether a value comes before another, or all parts of both are equal and there are as many.
+/// Whether a value comes before another by the order of `less`, or neither comes before the other: one number, one text, or as many parts that
+/// are equal in pairs. Errors as those of `less`.
 #[tactic(auto, unfolding(crate::specs::Orders::less_or_equal))]
 pub fn less_or_equal(m: &mut Machine, a: &Value, b: &Value) -> Result<bool, Stop>
     ensures { Runs (spec.less_or_equal a.now b.now m.old) result m.new }
@@ -145,8 +147,8 @@ fn both_less(
 
 // ---- which values are sorted together
 
-/// Whether values can be sorted together: they are all numbers, all texts, or all tuples of as many parts that can. Takes no memory and no
-/// step.
+/// Whether values can be sorted together: they are all numbers, all texts, or all tuples of as many parts, of which those at one place can be
+/// sorted together. Takes no memory and no step.
 pub fn sorts_together(values: &[Value]) -> bool
     ensures { IsTrue result ↔ spec.SortTogether values.now }
 {

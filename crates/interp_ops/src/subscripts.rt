@@ -13,7 +13,8 @@ use interp_machine::{
 };
 use std::alloc::Global;
 
-/// `a[i]`
+/// `a[i]` (Python reference 6.3.2). TypeError where `a` has no items, the index is no number or the value has no key; IndexError; KeyError. Takes
+/// no step, and memory; for want of it `Stop::NoMemory`.
 #[tactic(auto, unfolding(crate::specs::Subscripts::subscript, interp_machine::specs::Kinds::kind))]
 pub fn subscript(m: &mut Machine, a: &Value, i: &Value) -> Result<Value, Stop>
     ensures { Runs (spec.subscript a.now i.now m.old) result m.new }
@@ -184,7 +185,8 @@ fn dict_at(m: &mut Machine, d: ObjRef, key: &Value) -> Result<Value, Stop>
     }
 }
 
-/// `a[i] = v`
+/// `a[i] = v`. TypeError where `a` is no list and no dictionary, the index is no number or the value has no key; IndexError. Takes no step, and
+/// memory; for want of it `Stop::NoMemory`.
 #[tactic(auto, unfolding(crate::specs::Subscripts::store_item, interp_machine::specs::Kinds::kind))]
 pub fn store_item(m: &mut Machine, a: &Value, i: &Value, v: Value) -> Result<(), Stop>
     ensures { Runs (spec.store_item a.now i.now v m.old) result m.new }
@@ -231,7 +233,8 @@ fn dict_store(m: &mut Machine, d: ObjRef, key: &Value, v: Value) -> Result<(), S
     }
 }
 
-/// `del a[i]`
+/// `del a[i]`. Errors as in `store_item`, and KeyError; `Stop::Steps` where too few steps are left for the items that are moved. Takes memory;
+/// for want of it `Stop::NoMemory`.
 #[tactic(auto, unfolding(crate::specs::Subscripts::delete_item, interp_machine::specs::Kinds::kind))]
 pub fn delete_item(m: &mut Machine, a: &Value, i: &Value) -> Result<(), Stop>
     ensures { Runs (spec.delete_item a.now i.now m.old) result m.new }
@@ -300,7 +303,8 @@ fn behind_first(alloc: Global, items: &Values) -> Result<Values, NoMemory>
     }
 }
 
-/// Puts values in the place of the items of a list from a place on, for a step each.
+/// Puts values in the place of the items of a list from a place on that is at most its length, for a step each; `Stop::Steps` where too few are
+/// left. Takes memory; for want of it `Stop::NoMemory`.
 #[tactic(auto, unfolding(crate::specs::Subscripts::splice))]
 pub fn splice(m: &mut Machine, o: ObjRef, from: usize, tail: Values) -> Result<(), Stop>
     ensures { Runs (spec.splice o from tail m.old) result m.new }

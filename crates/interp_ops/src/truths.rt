@@ -9,7 +9,8 @@ use heap_objects::Value;
 use interp_machine::{Kind, Machine, Stop, range_size};
 
 /// Whether a value counts as true: all but None, False, 0, an empty text, tuple or range, and a list or a dictionary without entries,
-/// whose shape is used (Python library reference, "Truth Value Testing").
+/// whose shape is used (Python library reference, "Truth Value Testing"). Takes no step, and memory for the event of that use; for want of it
+/// `Stop::NoMemory`.
 #[tactic(auto, unfolding(crate::specs::Truths::truth, interp_machine::specs::Kinds::kind))]
 pub fn truth(m: &mut Machine, v: &Value) -> Result<bool, Stop>
     ensures { Runs (spec.truth v.now m.old) result m.new }

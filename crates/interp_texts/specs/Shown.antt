@@ -49,7 +49,7 @@ method_text name = codes "<method " ++ name ++ codes ">"
 abbrev pub instance_text : List ℕ → List ℕ
 instance_text class = codes "<" ++ class ++ codes " object>"
 
--- a class of values or of exceptions, or a function
+-- whether a built-in is a class of values or of exceptions, and no function
 abbrev pub is_builtin_class : Sym → Bool
 is_builtin_class f = is_among value_classes f || has_class (class_of_symbol f)
   where
@@ -143,6 +143,7 @@ Shower = List ObjRef → List ℕ → Value → M (List ℕ)
 abbrev pub plain : List ℕ → List ℕ → M (List ℕ)
 plain d t = steps (length t) >> pure (d ++ t)
 
+-- a word behind a text
 abbrev pub ends_with : List ℕ → List ℕ → M (List ℕ)
 ends_with word d = pure (d ++ word)
 
@@ -249,7 +250,7 @@ module _ (below : ℕ) (told : Teller) (d : List ℕ) where
   str_arguments keyed (x ∷ []) = str_one keyed x
   str_arguments keyed xs = tuple_to below d xs
 
--- where so many levels may be open, this one counted, and so many below this one, in which that is told
+-- where `n` levels may be open, this one counted, and `below` ones below it, at which `told` tells the only argument
 module _ (n below : ℕ) (told : Teller) (d : List ℕ) where
   abbrev pub str_instance : Value → ObjRef → Option ExcClass → M (List ℕ)
   str_instance x o None = show_to n [] d x

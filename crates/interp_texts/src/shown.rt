@@ -12,7 +12,9 @@ use heap_objects::{Value, Values, key_of};
 use interp_machine::{ARGS, Draft, Machine, Stop, Walker, after, fault, next};
 use std::alloc::Global;
 
-/// The text of a value, as `repr` gives it.
+/// The text of a value, as `repr` gives it, for a step for each part and for each code point of what has no parts. RecursionError where a part
+/// stands deeper than executions and evaluations may be open, `Stop::Steps` where too few steps are left. Takes memory; for want of it
+/// `Stop::NoMemory`.
 #[tactic(auto, unfolding(crate::specs::Shown::show))]
 pub fn show(m: &mut Machine, v: &Value) -> Result<PyText, Stop>
     ensures { Runs (spec.show v.now m.old) result m.new }

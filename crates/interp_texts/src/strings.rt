@@ -9,7 +9,8 @@ use flow_base::{ObjRef, PyText};
 use heap_objects::{Value, Values};
 use interp_machine::{Draft, Kind, Machine, Stop, exception_of, fault};
 
-/// The text of a value, as `str` gives it.
+/// The text of a value, as `str` gives it: a text is its own, and that of an exception is the one of its only argument, or of the tuple of
+/// several. Errors as those of `show`.
 #[tactic(auto, unfolding(crate::specs::Shown::to_str))]
 pub fn to_str(m: &mut Machine, v: &Value) -> Result<PyText, Stop>
     ensures { Runs (spec.to_str v.now m.old) result m.new }
