@@ -1,26 +1,21 @@
--- Lists of live names, of stale versions, and the least of them.
-use Rattle.std.proofs.Common.{◌≡◌, ◌∙◌, ℕ, List, [], ◌∷◌, ◌++◌, length, filter, take, drop, Bool, true, false, not, cond, ◌||◌, Option, Some, None, ap, sym, refl}
-use Rattle.std.specs.Prelude.{option_map, is_some}
-use Rattle.std.specs.List.{cons_option}
+-- Lists of live names, and the least of stale versions.
+use Rattle.std.proofs.Common.{◌≡◌, ◌∙◌, ℕ, List, [], ◌∷◌, ◌++◌, filter, take, drop, Bool, true, false, not, cond, ◌||◌, Option, Some, None, ap, sym, refl}
+use Rattle.std.specs.Prelude.{is_some}
 use Rattle.std.specs.Ordering.{nat_cmp, eq_by_cmp}
 use Rattle.std.specs.Cmp.{eq_by_cmp_equiv}
 use Rattle.std.specs.Cmp.Lexicographic.{slice_cmp, nat_list_cmp_total}
 use Rattle.std.specs.FinMap.{FinMap, get, insert, empty as empty_map, get-insert, get-empty}
 use Rattle.std.proofs.lemmas.List.{map-append}
 use Rattle.std.proofs.lemmas.Map.Text.{is_eq-slice_cmp}
-use Rattle.flow_base.specs.Names.{symbol_of}
 use Rattle.flow_base.specs.declared.numbers.RunNo.{RunNo}
 use Rattle.trace_events.specs.declared.version.Version.{Version}
-use Rattle.trace_events.specs.Decided.{is_stale}
-use Rattle.trace_events.specs.History.{History}
 use Rattle.trace_events.specs.Why.{least, lesser}
 use Rattle.py_ast.specs.Statement.{Block, empty, then as before, view_stmt, view_block}
 use Rattle.py_ast.specs.declared.stmt.Stmt.{Stmt}
 use Rattle.plain_cells.specs.Plain.{assigned, name_bound, names_read}
-use Rattle.plain_cells.specs.Run.{global}
-use Rattle.kernel_core.specs.Lineage.{is_in, live_from, live_names, version_now, with_bound, with_path}
+use Rattle.kernel_core.specs.Lineage.{is_in, live_from, live_names, with_bound, with_path}
 use Rattle.kernel_core.specs.Naming.{binds}
-use Rattle.kernel_core.specs.Marking.{all_written, has_name, live_in, stale_among, versions_of, written}
+use Rattle.kernel_core.specs.Marking.{all_written, has_name, live_in, written}
 
 -- ---- live names, by a test for what is bound
 
@@ -80,20 +75,6 @@ pub live_at_start : (X : Type 0) (b : Block) → live_by (has_name (empty_map {X
 live_at_start X b =
     live_by_alike b (has_name (empty_map {X = X} {R = slice_cmp nat_cmp})) (is_in []) (λ x. ap is_some (get-empty {X = X} (slice_cmp nat_cmp) x))
     ∙ live_by-live_from b []
-
--- ---- stale versions
-
-kept_first : (b : Bool) (v : Version) (vs : List Version) → cond b (v ∷ vs) vs ≡ cond b (v ∷ []) [] ++ vs
-kept_first true v vs = refl
-kept_first false v vs = refl
-
-stale_option : (h : History) (o : Option Version) (vs : List Version) → stale_among h (cons_option o vs) ≡ stale_among h (cons_option o []) ++ stale_among h vs
-stale_option h None vs = refl
-stale_option h (Some v) vs = kept_first (is_stale h (length h) v) v (stale_among h vs)
-
-pub stale_cons : (names : List (List ℕ)) (h : History) (x : List ℕ) (xs : List (List ℕ))
-    → stale_among h (versions_of names h (x ∷ xs)) ≡ stale_among h (versions_of names h (x ∷ [])) ++ stale_among h (versions_of names h xs)
-stale_cons names h x xs = stale_option h (option_map (λ s. version_now h (global s)) (symbol_of names x)) (versions_of names h xs)
 
 -- ---- the least version
 

@@ -188,16 +188,6 @@ compared_none (suc i) ops = no_operands (drop i ops)
     no_operands [] = refl
     no_operands (o ∷ os) = refl
 
-pub compared_past : (i : ℕ) (ops : List CompareOp) (ps : List (List Piece)) → length ops < i → compared_from i ops ps ≡ []
-compared_past zero ops ps h = absurd (omega arith)
-compared_past (suc i) [] ps h = no_operators i
-  where
-    no_operators : (k : ℕ) → compared_on (drop k []) ps ≡ []
-    no_operators zero = refl
-    no_operators (suc k) = refl
-compared_past (suc zero) (o ∷ ops) ps h = absurd (omega arith)
-compared_past (suc (suc i)) (o ∷ ops) ps h = compared_past (suc i) ops ps (omega arith)
-
 pub operands_at : (i : ℕ) (all : List Expr) (x : Expr) → i < length all → x ≡ get_or all i x
     → operands (views (drop i all)) ≡ expr_at Sum (view x) ∷ operands (views (drop (i + 1) all))
 operands_at i all x inside is = ap (λ z. operands (views z)) (drop_more all i x inside ∙ ap (λ z. z ∷ drop (i + 1) all) (sym is))
